@@ -1,1 +1,3 @@
 -- Laws about the definitions of specs/.
+pub mod Tests
+pub mod Scan

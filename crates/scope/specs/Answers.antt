@@ -22,12 +22,12 @@ unfoldable pub indexOf : Verdict → ℕ
 indexOf verdict.Accepted = 0
 indexOf (verdict.Refused number index) = index
 
--- Read out answers: nothing, closed, or outline; here 0, 1 and 2. A refusal has no kind of its own, and counts as nothing.
+-- Read out answers: nothing, closed, or outline; here 0, 1 and 2, and 3 for a refusal.
 unfoldable pub kindOf : ReadOut → ℕ
 kindOf readout.Nothing = 0
 kindOf readout.Closed = 1
 kindOf (readout.Outline polygons rings area) = 2
-kindOf (readout.Refused number index) = 0
+kindOf (readout.Refused number index) = 3
 
 -- The refusal in a read out's answer.
 unfoldable pub verdictOf : ReadOut → Verdict

@@ -2,7 +2,7 @@
 -- the table, the memory and the arguments to the answer and the memory.
 -- Assumes nothing.
 use Prim.Native.Nat.{ℕ}
-use mathlib.Core.Bool.{Bool, true, false, _&&_, cond}
+use mathlib.Core.Bool.{Bool, _&&_}
 use mathlib.Core.List.{List, [], _∷_, _++_, map}
 use lib.Dec.{leb}
 use lib.ListN.{length, drop}
@@ -13,10 +13,10 @@ use Rattle.scope.specs.declared.ReadOut.the-variants as readout
 use Rattle.scope.specs.Answers.{require, _▷_, ifAccepted}
 use Rattle.scope.specs.Table.{Table, targetOf, tableVerdict, outlineRows}
 use Rattle.scope.specs.CellLists.{listVerdict, cellVerdict}
-use Rattle.scope.specs.Memory.{Memory, Output, keptMode, held, heldCells, places, opened, kept, lengthsFit, outputsAgree, modeFits}
+use Rattle.scope.specs.Memory.{Memory, Output, keptMode, heldCells, places, opened, kept, lengthsFit, outputsAgree, modeFits}
 use Rattle.scope.specs.Rules.{rulesKept}
 use Rattle.scope.specs.Pool.{outlineVerdict, taking}
-use Rattle.scope.specs.Order.{View, view, lowestRows, areaAt, groupAt, ordered, starts, sizes, edgeRows, readAnswer}
+use Rattle.scope.specs.Order.{View, view, areaAt, groupAt, ordered, starts, sizes, edgeRows, readAnswer}
 
 -- ---- open and offer
 
@@ -71,7 +71,7 @@ written v o =
       edges = over (edgeRows v l) (o .edges);
     }
 
--- An output is too short for what must be written.
+-- 10 unless the outputs are long enough for what must be written.
 unfoldable pub outputFits : View → Output → Bool
 outputFits v o = leb (length (ordered v)) (length (o .start)) && leb (length (edgeRows v (ordered v))) (length (o .edges))
 
@@ -101,7 +101,7 @@ offeringAll t m (x ∷ xs) =
     let rest = offeringAll t (first .left) xs in
     ifAccepted (first .answer) rest first
 
--- Dissolve tests 10, 1, then 2, 3, 4, 3, 8 over the whole list; refused so, it writes nothing.
+-- Dissolve tests 10, 1, then 2, 3, 4, 3, 8 over the whole list.
 unfoldable pub dissolveVerdict : Table → Memory → ℕ → List ℕ → Output → Verdict
 dissolveVerdict t m mode cs o =
     require (outputsAgree o) 10 0 ▷ openVerdict t m mode ▷ listVerdict (kept mode) (targetOf t) (places m) cs
@@ -114,5 +114,6 @@ working t m mode cs o =
     let last = offeringAll t fresh cs in
     reading (last .answer ▷ require (outputFits (view t (last .left)) o) 10 0) (readFrom t (last .left) o) fresh o
 
+-- Every other refusal writes nothing.
 unfoldable pub dissolving : Table → Memory → ℕ → List ℕ → Output → Reading
 dissolving t m mode cs o = reading (dissolveVerdict t m mode cs o) (working t m mode cs o) m o

@@ -15,25 +15,25 @@ use Rattle.scope.specs.Cells.{resolutionOf, validCell, under}
 abbrev pub isEven : ℕ → Bool
 isEven mode = eqb mode 0
 
--- 2: a cell isn't valid.
+-- 2 unless every cell is valid.
 abbrev pub validAt : List ℕ → ℕ → Bool
 validAt cs i = validCell (at cs i)
 
--- 3: equal cells; the second one has an equal before it.
+-- 3 unless no two cells are equal; of two, the second one has an equal before it.
 abbrev pub differs : List ℕ → ℕ → ℕ → Bool
 differs cs x i = not (eqb (at cs i) x)
 
 abbrev pub firstOfItsKind : List ℕ → ℕ → Bool
 firstOfItsKind cs i = passes (differs cs (at cs i)) i
 
--- 4: finer than the target; in even mode any other resolution.
+-- 4 when finer than the target; in even mode any other resolution.
 unfoldable pub resolutionFits : ℕ → ℕ → ℕ → Bool
 resolutionFits mode target x = cond (isEven mode) (eqb (resolutionOf x) target) (leb (resolutionOf x) target)
 
 abbrev pub resolutionFitsAt : ℕ → ℕ → List ℕ → ℕ → Bool
 resolutionFitsAt mode target cs i = resolutionFits mode target (at cs i)
 
--- 3, mixed mode: one cell lies under another.
+-- 3, mixed mode, unless no cell lies under another.
 abbrev pub notUnder : List ℕ → ℕ → ℕ → Bool
 notUnder cs x i = not (under x (at cs i))
 
@@ -43,7 +43,7 @@ underNone cs i = passes (notUnder cs (at cs i)) (length cs)
 abbrev pub inMixed : ℕ → Verdict → Verdict
 inMixed mode v = cond (isEven mode) Accepted v
 
--- 8: more cells than capacity.
+-- 8 unless there are no more cells than capacity.
 abbrev pub roomFor : ℕ → ℕ → Verdict
 roomFor capacity n = require (leb n capacity) 8 0
 

@@ -1,4 +1,5 @@
--- Document 01 as definitions, a file a section. What a reader must believe is this folder and nothing else.
+-- Document 01 as definitions, a file a section. What a reader must believe is this folder and the answers of src/lib.rt,
+-- with the kit's own numbers, lists and floats (lib.ListN, lib.Dec, lib.Ieee).
 pub mod Lists
 pub mod Answers
 pub mod Cells

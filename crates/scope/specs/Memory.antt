@@ -91,7 +91,7 @@ unfoldable pub opened : ℕ → Memory → Memory
 opened mode m = memory (kept mode ∷ 0 ∷ []) (zeros (m .cells)) (zeros (m .parent)) (zeros (m .rank)) (zeros (m .cellMark))
     (zeros (m .slotRow)) (zeros (m .slotCell)) (zeros (m .prev)) (zeros (m .next)) (zeros (m .rowSlot)) (zeros (m .rowMark))
 
--- ---- 10: slices disagree in length, a capacity is outside its range, a mode is above 2
+-- ---- 10 unless the slices agree in length, each capacity is in its range and the mode is at most 2
 
 abbrev pub tableAgrees : Table → Bool
 tableAgrees t = eqb (length (t .reverse)) (rowCount t) && eqb (length (t .area)) (rowCount t)

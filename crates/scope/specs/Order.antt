@@ -111,6 +111,7 @@ ringOrder v = thenBy (by (outerAt v) (polygonOrder v)) (withinPolygon v)
 unfoldable pub ordered : View → List ℕ
 ordered v = sortBy (ringOrder v) (lowestRows v)
 
+-- As many polygons as rings that are their polygon's outer.
 unfoldable pub polygonCount : View → ℕ
 polygonCount v = length (keep (λ r. eqb (outerAt v r) r) (lowestRows v))
 

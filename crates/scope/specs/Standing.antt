@@ -1,5 +1,5 @@
 -- Document 01, "Standing edges, rings, groups", as propositions. An edge is named by its row in the table; os are the outlines of the
--- accepted cells, each a list of rows in walk order.
+-- accepted cells, each a list of rows in walk order (an accepted cell's outline is in the table: refusal 5).
 -- Assumes nothing.
 use Prim.Native.Nat.{ℕ}
 use mathlib.Core.Bool.{Bool, cond}

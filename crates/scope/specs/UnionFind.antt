@@ -12,7 +12,7 @@ pub record Halved : Type 0 where
   pub root : ℕ
   pub parents : List ℕ
 
--- A turn of find: where a is no root, its parent becomes its parent's parent, and find goes on there. At most k turns.
+-- Find, at most k turns: at each, where a is no root, its parent becomes its parent's parent, and find goes on there.
 unfoldable pub halve : ℕ → List ℕ → ℕ → Halved
 halve zero ps a = record { root = a; parents = ps }
 halve (suc k) ps a =

@@ -6,7 +6,7 @@ use mathlib.Core.Bool.{Bool, true, false, _&&_, not, cond}
 use mathlib.Core.List.{List, [], _∷_}
 use lib.Dec.{eqb, leb, ltb}
 use lib.ListN.{set}
-use Rattle.scope.specs.Lists.{at, tabulate, tabulateFrom}
+use Rattle.scope.specs.Lists.{at, tabulate}
 use Rattle.scope.specs.Cells.{resolutionOf, baseCell, digit, isPentagon}
 
 -- Tables: walk digits and edge directions.
@@ -39,7 +39,7 @@ still ps = record { positions = ps; changed = false }
 abbrev pub nextPosition : ℕ → Bool → ℕ
 nextPosition p b = (p + cond b 12 0 + 1) % 18
 
--- The step of level r, after its parent level.
+-- The step of level r, after its parent level: m says whether the parent's digit changed, and the answer whether this level's did.
 unfoldable pub levelStep : ℕ → Moved → Moved
 levelStep r m =
     let p = at (m .positions) r in

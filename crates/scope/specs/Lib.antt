@@ -15,3 +15,4 @@ pub mod Pool
 pub mod Area
 pub mod Order
 pub mod Calls
+pub mod Demands

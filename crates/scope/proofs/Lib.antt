@@ -1,3 +1,6 @@
 -- Laws about the definitions of specs/.
 pub mod Tests
 pub mod Scan
+pub mod Cells
+pub mod Edges
+pub mod Member

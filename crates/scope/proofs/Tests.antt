@@ -1,5 +1,6 @@
 -- Tests: how a test's value is told and put to use.
 --     either, clash     a test is true or false, and not both
+--     never             a test that cannot be true
 --     same              two tests that follow from one another are equal
 --     fails, holds      a call answers the test, and the branch is on its negation
 --     and-..            the two sides of `&&`
@@ -22,6 +23,10 @@ either false = inr refl
 
 pub clash : {b : Bool} → b ≡ true → b ≡ false → ⊥
 clash p q = let z : _≡_ {A = ℕ} 0 1 = cc in omega arith
+
+pub never : (b : Bool) → (b ≡ true → ⊥) → b ≡ false
+never true h = absurd (h refl)
+never false h = refl
 
 pub same : (a b : Bool) → (a ≡ true → b ≡ true) → (b ≡ true → a ≡ true) → a ≡ b
 same true true p q = refl
@@ -87,3 +92,8 @@ pub all-from : (f : ℕ → Bool) (n : ℕ) → ((k : ℕ) → 0 < k → k ≤ n
 unfolding all
 all-from f zero p = refl
 all-from f (suc n) p = and-both _ _ (p (suc n) (omega arith) (omega arith)) (all-from f n (λ k a b. p k a (omega arith)))
+
+pub all-same : (f g : ℕ → Bool) (n : ℕ) → ((k : ℕ) → 0 < k → k ≤ n → f k ≡ g k) → all f n ≡ all g n
+unfolding all
+all-same f g zero e = refl
+all-same f g (suc n) e = rw (e (suc n) (omega arith) (omega arith), all-same f g n (λ k p q. e k p (omega arith)))

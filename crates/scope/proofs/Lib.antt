@@ -4,3 +4,5 @@ pub mod Scan
 pub mod Cells
 pub mod Edges
 pub mod Member
+pub mod Spell
+pub mod ValidCells

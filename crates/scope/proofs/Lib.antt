@@ -6,3 +6,4 @@ pub mod Edges
 pub mod Member
 pub mod Spell
 pub mod ValidCells
+pub mod Walks

@@ -7,3 +7,4 @@ pub mod Member
 pub mod Spell
 pub mod ValidCells
 pub mod Walks
+pub mod WalkStarts

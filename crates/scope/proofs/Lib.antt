@@ -6,5 +6,7 @@ pub mod Edges
 pub mod Member
 pub mod Spell
 pub mod ValidCells
+pub mod Entries
 pub mod Walks
 pub mod WalkStarts
+pub mod Odometer

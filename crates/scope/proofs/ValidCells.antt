@@ -3,11 +3,9 @@
 --     all-at, all-of                         `all` holds where the test holds of each
 --     validCell-is                           a valid cell by its top byte, base cell and digits
 --     valid-*                                what a valid cell has
---     entry-below                            a bound of a table's entries, computed once
 -- Assumes nothing.
 use mathlib.Core.Path.{_≡_, refl, _∙_, ap, sym}
 use mathlib.Core.Bool.{Bool, true, false, _&&_, cond}
-use mathlib.Core.List.{List, [], _∷_}
 use mathlib.Core.Logic.{_⊎_, inl, inr, ⊎-elim}
 use Prim.Native.Nat.{ℕ, zero, suc, _+_, _-_, _*_, _/_, _%_, _^_, _<_, _≤_}
 use native.Mathlib.Decide.{decLe}
@@ -15,7 +13,7 @@ use native.Mathlib.Nat.{div-div-eq-div-mul, eq-or-lt-of-le}
 use native.Mathlib.Omega.{arith}
 use lib.Dec.{eqb, leb, ltb}
 use borrow.Author.Tests.{eq-eqb, lt-ltb, le-leb, lt-leb, eqb-true, ltb-true, leb-true}
-use Rattle.scope.specs.Lists.{at, all}
+use Rattle.scope.specs.Lists.{all}
 use Rattle.scope.specs.Cells.{modeOf, edgeNumber, baseCell, resolutionOf, digit, digitFits, validCell}
 
 -- ---- tests
@@ -59,17 +57,6 @@ all-of f (suc n) e = and-both _ _ (e (suc n) (omega arith) (omega arith)) (all-o
 pub cond-lt : (m : ℕ) (b : Bool) (u v : ℕ) → u < m → v < m → cond b u v < m
 cond-lt m true u v p q = p
 cond-lt m false u v p q = q
-
--- every entry of a table is below m: a test that antt computes
-unfoldable pub allBelow : ℕ → List ℕ → Bool
-allBelow m [] = true
-allBelow m (y ∷ ys) = ltb y m && allBelow m ys
-
-pub entry-below : (m : ℕ) → 0 < m → (l : List ℕ) → allBelow m l ≡ true → (p : ℕ) → at l p < m
-unfolding allBelow
-entry-below m h [] e p = h
-entry-below m h (y ∷ ys) e zero = ltb-true _ _ (and-left _ _ e)
-entry-below m h (y ∷ ys) e (suc p) = entry-below m h ys (and-right (ltb y m) _ e) p
 
 -- ---- a valid cell
 

@@ -19,7 +19,8 @@ use Rattle.scope.specs.Lists.{at}
 use Rattle.scope.specs.Cells.{digit, weight, baseCell}
 use Rattle.scope.specs.Walk.{Walk, Moved, walkDigits, walkDigit, edgeDirections, edgeDirection, still, levelStep, asksParent, move, nextEdgePosition, step, walkedDigit, spell, edgeAt, passedOver, edges}
 use Rattle.scope.proofs.Spell.{built, spell-put, spell-low, spell-high}
-use Rattle.scope.proofs.ValidCells.{allBelow, entry-below, cond-lt}
+use Rattle.scope.proofs.ValidCells.{cond-lt}
+use Rattle.scope.proofs.Entries.{allBelow, entry-below}
 
 -- ---- the edge at a walk
 

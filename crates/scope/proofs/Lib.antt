@@ -10,3 +10,4 @@ pub mod Entries
 pub mod Walks
 pub mod WalkStarts
 pub mod Odometer
+pub mod WalkCounts

@@ -11,3 +11,7 @@ pub mod Walks
 pub mod WalkStarts
 pub mod Odometer
 pub mod WalkCounts
+pub mod Lands
+pub mod Members
+pub mod Pigeonhole
+pub mod Finite

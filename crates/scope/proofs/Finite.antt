@@ -1,6 +1,5 @@
 -- On a finite set a step lands: from the pigeonhole, a step that is injective and stays in a set of numbers below n meets its stops.
 --     lands-total      TOTALITY: it lands, in at most n steps
---     ring-closes      a step that permutes the set comes back to its start
 --     follow-is        `follow` with enough fuel is where `Lands` lands
 -- Assumes nothing.
 use mathlib.Core.Path.{_≡_, refl, sym, subst}
@@ -8,12 +7,10 @@ use mathlib.Core.Logic.{_⊎_, inl, inr, _≢_}
 use mathlib.Core.Bool.{Bool, true, false}
 use mathlib.Core.List.{List, [], _∷_, List·Memᴰ, List·Memᴰ·head, List·Memᴰ·tail, List·Memᴰ·not-nil, List·Memᴰ·cases-cons, Memᴰ·cast}
 use Prim.Native.Nat.{ℕ, zero, suc, _+_, _≤_, _<_, suc-le-suc}
-use native.Mathlib.Decide.{ℕ-discrete}
 use native.Mathlib.Omega.{arith}
 use lib.ListN.{length}
 use Rattle.scope.specs.Lists.{follow}
 use Rattle.scope.specs.Standing.{Lands, here, on}
-use Rattle.scope.proofs.Lands.{lands-stop, lands-to}
 use Rattle.scope.proofs.Members.{Fresh}
 use Rattle.scope.proofs.Pigeonhole.{fresh-length}
 
@@ -92,14 +89,6 @@ module _ (n : ℕ) (U S : ℕ → Type 0) (f : ℕ → ℕ) (st : Steps n U S f)
   -- TOTALITY: it lands, in at most n steps
   pub lands-total : (y : ℕ) × (r : Lands S f x₀ y) × (steps r ≤ n)
   lands-total = walk n start (omega arith)
-
--- A ring closes: with every step inside U and injective there, the way on from s comes back to s.
-pub ring-closes : (n : ℕ) (U : ℕ → Type 0) (f : ℕ → ℕ) → ((a : ℕ) → U a → a < n) → ((a : ℕ) → U a → U (f a))
-    → ((a b : ℕ) → U a → U b → f a ≡ f b → a ≡ b) → (s : ℕ) → U s → Lands (λ a. a ≡ s) f (f s) s
-ring-closes n U f below keeps inj s u =
-    let st : Steps n U (λ a. a ≡ s) f = record { below = below; keeps = λ a v m. keeps a v; injects = λ a b v m w k e. inj a b v w e } in
-    let r = lands-total n U (λ a. a ≡ s) f st (λ a. ℕ-discrete a s) (f s) (keeps s u) (λ a v m e. m (inj a s v u e)) in
-    lands-to (lands-stop (r .1)) (r .1)
 
 -- ---- the same as a computation with fuel
 

@@ -15,3 +15,6 @@ pub mod Lands
 pub mod Members
 pub mod Pigeonhole
 pub mod Finite
+pub mod Cycle
+pub mod Successor
+pub mod Offer

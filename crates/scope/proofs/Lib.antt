@@ -18,3 +18,6 @@ pub mod Finite
 pub mod Cycle
 pub mod Successor
 pub mod Offer
+pub mod Outlines
+pub mod Chains
+pub mod Forest

@@ -19,5 +19,8 @@ pub mod Cycle
 pub mod Successor
 pub mod Offer
 pub mod Outlines
+pub mod Proper
 pub mod Chains
 pub mod Forest
+pub mod OrderFree
+pub mod Agree

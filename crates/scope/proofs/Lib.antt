@@ -24,3 +24,4 @@ pub mod Chains
 pub mod Forest
 pub mod OrderFree
 pub mod Agree
+pub mod Rings

@@ -3,7 +3,7 @@
 --     Fresh l                         no member twice
 --     mem-at, place, fresh-at         members by their places
 --     member-true, member-false       the test `member` is membership; `fresh-test`: `namesTwice` tests `Fresh`
---     below-mem, mem-below            `below` lists the numbers that pass
+--     below-mem, mem-below            `below` lists the numbers that pass; `below-fresh`: each once
 --     Put f g i v                     a store, by what it does at each place
 -- Assumes nothing.
 use mathlib.Core.Path.{_≡_, refl, sym, _∙_, ap, subst}
@@ -89,6 +89,15 @@ fresh-at (x ∷ l) f zero (suc j) h k e = absurd (f .0 (Memᴰ·cast e (mem-at l
 fresh-at (x ∷ l) f (suc i) zero h k e = absurd (f .0 (Memᴰ·cast (sym e) (mem-at l i (omega arith))))
 fresh-at (x ∷ l) f (suc i) (suc j) h k e = ap suc (fresh-at l (f .1) i j (omega arith) (omega arith) e)
 
+-- one more at the end
+pub fresh-last : (l : List ℕ) (x : ℕ) → Fresh l → (List·Memᴰ x l → ⊥) → Fresh (l ++ (x ∷ []))
+fresh-last [] x f n = (List·Memᴰ·not-nil, tt)
+fresh-last (y ∷ l) x f n = (λ m. go (List·Memᴰ·append-cases l m), fresh-last l x (f .1) (λ m. n (List·Memᴰ·tail m)))
+  where
+    go : List·Memᴰ y l ⊎ List·Memᴰ y (x ∷ []) → ⊥
+    go (inl m) = f .0 m
+    go (inr m) = n (List·Memᴰ·head (sym (List·Memᴰ·eq-of-singleton m)))
+
 pub fresh-test : (l : List ℕ) → namesTwice l ≡ false → Fresh l
 unfolding namesTwice
 fresh-test [] e = tt
@@ -122,6 +131,15 @@ mem-below ok (suc n) a m =
     last : ok n ≡ true → (List·Memᴰ a (below ok n) → (a < n) × (ok a ≡ true)) → List·Memᴰ a (below ok n) ⊎ List·Memᴰ a (n ∷ []) → (a < suc n) × (ok a ≡ true)
     last t ih (inl k) = more (ih k)
     last t ih (inr k) = let e : a ≡ n = List·Memᴰ·eq-of-singleton k in (omega arith, ap ok e ∙ t)
+
+pub below-fresh : (ok : ℕ → Bool) (n : ℕ) → Fresh (below ok n)
+unfolding below
+below-fresh ok zero = tt
+below-fresh ok (suc n) =
+    ⊎-elim
+    (λ (t : ok n ≡ true). rw t (fresh-last (below ok n) n (below-fresh ok n) (λ m. let h = mem-below ok n n m .0 in omega arith)))
+    (λ (t : ok n ≡ false). rw t (below-fresh ok n))
+    (either (ok n))
 
 -- ---- a store, by what it does at each place
 

@@ -25,3 +25,4 @@ pub mod Forest
 pub mod OrderFree
 pub mod Agree
 pub mod Rings
+pub mod WalkOwners

@@ -18,7 +18,7 @@ use lib.ListN.{length, set, length-set}
 use lib.Seq.{getD-set-same, getD-set-other}
 use borrow.Author.Tests.{eqb-true, eqb-false, lt-ltb, le-ltb}
 use Rattle.scope.specs.Lists.{at}
-use Rattle.scope.specs.Walk.{Walk, Moved, still, levelStep, asksParent, nextPosition, move, passedOver, firstPosition, firstWalk, walkDigits, walkDigit}
+use Rattle.scope.specs.Walk.{Walk, Moved, still, levelStep, asksParent, nextPosition, move, step, passedOver, firstPosition, firstWalk, walkDigits, walkDigit}
 use Rattle.scope.proofs.ValidCells.{le-or-lt}
 use Rattle.scope.proofs.Entries.{every, entry}
 use Rattle.scope.proofs.Walks.{settled, settled-yes, settled-no, move-is, asks-first}
@@ -55,6 +55,10 @@ move-fine c (suc r) ps f =
     set-fine (m .positions) (suc r) (nextPosition (at (m .positions) (suc r)) (m .changed))
     (cond-fine (asksParent c (suc r) ps) (move c r ps) (still ps) (move-fine c r ps f) f)
     (omega arith)
+
+pub step-fine : (c t : ℕ) (w : Walk) → Fine (w .positions) → Fine (step c t w .positions)
+unfolding step
+step-fine c t w f = cond-fine (ltb c t) (move c t (w .positions)) (still (w .positions)) (move-fine c t (w .positions) f) f
 
 after-cond : (b : Bool) (m n : Moved) (j p : ℕ) → at (m .positions) j ≡ p → at (n .positions) j ≡ p → at (cond b m n .positions) j ≡ p
 after-cond true m n j p a b = a

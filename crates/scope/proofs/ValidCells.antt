@@ -1,5 +1,6 @@
 -- What the tests of specs/Cells.antt say: a run of tests over the digits, the tests of a cell's head, what a valid cell has.
---     and-left, and-right, and-both, same    a test that is the conjunction of two
+--     and-left, and-right, and-both          a test that is the conjunction of two
+--     same, refuted                          a test by what follows from it
 --     all-at, all-of                         `all` holds where the test holds of each
 --     validCell-is                           a valid cell by its top byte, base cell and digits
 --     valid-*                                what a valid cell has
@@ -39,6 +40,10 @@ and-right false b e = cc
 pub and-both : (a b : Bool) → a ≡ true → b ≡ true → (a && b) ≡ true
 and-both true b p q = q
 and-both false b p q = p
+
+pub refuted : (a : Bool) → (a ≡ true → ⊥) → a ≡ false
+refuted true n = absurd (n refl)
+refuted false n = refl
 
 pub all-at : (f : ℕ → Bool) (n : ℕ) → all f n ≡ true → (k : ℕ) → 0 < k → k ≤ n → f k ≡ true
 unfolding all

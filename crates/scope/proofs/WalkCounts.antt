@@ -17,7 +17,7 @@ use borrow.Author.Tests.{lt-ltb, le-ltb, le-leb, lt-leb}
 use Rattle.scope.specs.Cells.{resolutionOf, isPentagon}
 use Rattle.scope.specs.Walk.{Walk, move, step, edgeAt, passedOver, edges, firstWalk, outline}
 use Rattle.scope.proofs.WalkStarts.{first-own}
-use Rattle.scope.proofs.Odometer.{Fine, first-fine, move-fine, level, value, value-first, value-move, passed-is}
+use Rattle.scope.proofs.Odometer.{Fine, first-fine, step-fine, level, value, value-first, value-move, passed-is}
 
 -- the walk after n steps
 unfoldable pub after : ℕ → ℕ → ℕ → Walk → Walk
@@ -34,9 +34,6 @@ module _ (x c k t : ℕ) (at-level : t ≡ level c k) (deep : t ≤ 15) where
   step-is : (w : Walk) → step c t w .positions ≡ move c (level c k) (w .positions) .positions
   step-is w = step-positions c t w (omega arith) ∙ ap (λ (r : ℕ). move c r (w .positions) .positions) at-level
 
-  step-fine : (w : Walk) → Fine (w .positions) → Fine (step c t w .positions)
-  step-fine w f = rw (step-is w) (move-fine c (level c k) (w .positions) f)
-
   step-value : (w : Walk) (v : ℕ) → Fine (w .positions) → value c k (w .positions) ≡ v → v + 1 < 18 * 3 ^ k → value c k (step c t w .positions) ≡ v + 1
   step-value w v f e l =
       ap (value c k) (step-is w) ∙ value-move c k (w .positions) f (omega arith) (omega arith) ∙ ap (λ (y : ℕ). y + 1) e
@@ -49,7 +46,7 @@ module _ (x c k t : ℕ) (at-level : t ≡ level c k) (deep : t ≤ 15) where
   none-passed (suc n) v w f h a l =
       let e : value c k (w .positions) ≡ v = h (omega arith) in
       let r : edges true x c t n (step c t w) ≡ edges false x c t n (step c t w) =
-      none-passed n (v + 1) (step c t w) (step-fine w f) (λ z. step-value w v f e (omega arith)) (omega arith) (omega arith) in
+      none-passed n (v + 1) (step c t w) (step-fine c t w f) (λ z. step-value w v f e (omega arith)) (omega arith) (omega arith) in
       let b : 3 * 3 ^ k ≤ value c k (w .positions) = omega arith in
       let p : passedOver true c t w ≡ false = passed-is c k t w at-level f ∙ le-ltb _ _ b in
       rw (p, r)
@@ -63,7 +60,7 @@ module _ (x c k t : ℕ) (at-level : t ≡ level c k) (deep : t ≤ 15) where
       let z : suc m + n ≡ suc (m + n) = omega arith in
       let b : value c k (w .positions) < 3 * 3 ^ k = omega arith in
       let p : passedOver true c t w ≡ true = passed-is c k t w at-level f ∙ lt-ltb _ _ b in
-      rw (z, p) (all-passed m n (v + 1) (step c t w) (step-fine w f) (step-value w v f e (omega arith)) (omega arith) (omega arith))
+      rw (z, p) (all-passed m n (v + 1) (step c t w) (step-fine c t w f) (step-value w v f e (omega arith)) (omega arith) (omega arith))
 
 third : (c t : ℕ) → c < t → 3 ^ (t - c) ≡ 3 * 3 ^ (t - c - 1)
 third c t h = ap (λ (n : ℕ). 3 ^ n) (let e : t - c ≡ suc (t - c - 1) = omega arith in e) ∙ omega (arith, pow-suc 3 (t - c - 1))

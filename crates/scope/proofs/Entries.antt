@@ -11,7 +11,7 @@ use lib.Dec.{ltb}
 use lib.ListN.{length}
 use borrow.Author.Tests.{ltb-true}
 use Rattle.scope.specs.Lists.{at}
-use Rattle.scope.proofs.ValidCells.{and-left, and-right}
+use Rattle.scope.proofs.Tests.{and-left, and-right}
 
 -- the test passes of each place, counted from i, and its entry
 unfoldable pub every : (ℕ → ℕ → Bool) → ℕ → List ℕ → Bool

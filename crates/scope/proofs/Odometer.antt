@@ -19,7 +19,7 @@ use lib.Seq.{getD-set-same, getD-set-other}
 use borrow.Author.Tests.{eqb-true, eqb-false, lt-ltb, le-ltb}
 use Rattle.scope.specs.Lists.{at}
 use Rattle.scope.specs.Walk.{Walk, Moved, still, levelStep, asksParent, nextPosition, move, step, passedOver, firstPosition, firstWalk, walkDigits, walkDigit}
-use Rattle.scope.proofs.ValidCells.{le-or-lt}
+use Rattle.scope.proofs.Tests.{le-or-lt}
 use Rattle.scope.proofs.Entries.{every, entry}
 use Rattle.scope.proofs.Walks.{settled, settled-yes, settled-no, move-is, asks-first}
 use Rattle.scope.proofs.WalkStarts.{first-at, first-lt, first-long}

@@ -16,8 +16,11 @@ use borrow.Author.Tests.{eq-eqb, le-leb, lt-leb, lt-ltb, le-ltb, leb-true, ltb-t
 use Rattle.scope.specs.Lists.{at, member}
 use Rattle.scope.specs.Cells.{modeOf, edgeNumber, resolutionOf, baseCell, digit, digitFits, digitZero, pentagonBaseCells, validCell, isPentagon, ownerOf, validEdge, under}
 use Rattle.scope.specs.Walk.{Walk, walkDigit, walkDigits, edgeDirection, edgeDirections, walkedDigit, spell, edgeAt, step, passedOver, edges, firstWalk, outline}
-use Rattle.scope.proofs.ValidCells.{le-or-lt, refuted, and-right, all-at, all-of, validCell-is, valid-base, valid-digit, valid-top}
+use Rattle.scope.proofs.Tests.{le-or-lt, never, and-right, all-at, all-from}
+use Rattle.scope.proofs.Cells.{validCell-is}
+use Rattle.scope.proofs.ValidCells.{cell-base, cell-digit, cell-head}
 use Rattle.scope.proofs.Entries.{every, entry}
+use Rattle.scope.proofs.Members.{mem-at}
 use Rattle.scope.proofs.Spell.{built, built-top, built-mode, built-edge, built-resolution, built-base, spell-read, spell-same, spell-high, spell-own}
 use Rattle.scope.proofs.Walks.{digitsAt, digits-lt, walkDigit-lt, walkedDigit-lt, edgeDirection-lt, edge-is}
 use Rattle.scope.proofs.WalkStarts.{own-digit}
@@ -82,7 +85,7 @@ module _ (x t : ℕ) (w : Walk) (valid : validCell x ≡ true) (down : resolutio
       (λ (h : k ≤ t).
       rw (le-leb k t h)
       (⊎-elim
-      (λ (g : k ≤ c). rw (le-leb k c g) (lt-ltb _ _ (valid-digit x valid k p g)))
+      (λ (g : k ≤ c). rw (le-leb k c g) (lt-ltb _ _ (cell-digit x valid k p g)))
       (λ (g : c < k). rw (lt-leb k c g) (lt-ltb _ _ (walkDigit-lt (at (w .positions) k))))
       (le-or-lt k c)))
       (λ (h : t < k). rw (lt-leb k t h, lt-leb k c (omega arith)))
@@ -92,13 +95,13 @@ module _ (x t : ℕ) (w : Walk) (valid : validCell x ≡ true) (down : resolutio
   owner-valid =
       let h : owner / 2 ^ 56 ≡ 8 =
       rw owner-built (built-top 1 0 t (baseCell x) (digitsAt x c t w) (lit< tt) (omega arith) base (digits-lt x c t w)) in
-      rw (validCell-is owner, eq-eqb _ _ h, owner-base, le-leb _ _ (valid-base x valid)) (all-of (digitFits owner) 15 owner-fits)
+      rw (validCell-is owner, eq-eqb _ _ h, owner-base, le-leb _ _ (cell-base x valid)) (all-from (digitFits owner) 15 owner-fits)
 
   owner-under : c < t → under owner x ≡ true
   unfolding under
   owner-under l =
       rw (owner-resolution, owner-base, lt-ltb c t l, eq-eqb (baseCell x) (baseCell x) refl)
-      (all-of _ 15
+      (all-from _ 15
       (λ k p q.
       ⊎-elim
       (λ (g : k ≤ c). rw (le-ltb c k g) (eq-eqb _ _ (owner-digit k p q ∙ rw (le-leb k c g))))
@@ -108,13 +111,13 @@ module _ (x t : ℕ) (w : Walk) (valid : validCell x ≡ true) (down : resolutio
   owner-same : c ≡ t → owner ≡ x
   owner-same i =
       subst (λ (u : ℕ). spell ((8 * 16 + u) * 128 + baseCell x) (walkedDigit x c u w) 15 ≡ x) i
-      (rw (← valid-top x valid) (spell-same (x / 2 ^ 45) (walkedDigit x c c w) (digit x) 15 (own-digit x valid w) ∙ spell-own x))
+      (rw (← cell-head x valid) (spell-same (x / 2 ^ 45) (walkedDigit x c c w) (digit x) 15 (own-digit x valid w) ∙ spell-own x))
 
   -- below the cell's resolution the owner's last digit is no 0, so that it is no pentagon
   owner-hexagon : at (w .positions) t < 18 → c < t → isPentagon owner ≡ false
   unfolding isPentagon every
   owner-hexagon round l =
-      refuted _
+      never _
       (λ p.
       let z : digitZero owner t ≡ true = all-at (digitZero owner) 15 (and-right (member (baseCell owner) pentagonBaseCells) _ p) t (omega arith) deep in
       let o : digit owner t ≡ 0 = eqb-true _ _ (rw (owner-resolution, le-leb t t (omega arith)) at z) in
@@ -181,11 +184,6 @@ outline-edges x t valid deep e m =
     (λ v f s g. edge-holds x t v valid h deep f s g) e (rw (le-leb c t h) at m))
     (λ (h : t < c). absurd (List·Memᴰ·not-nil (rw (lt-leb c t h) at m)))
     (le-or-lt c t)
-
-mem-at : (l : List ℕ) (i : ℕ) → i < length l → List·Memᴰ (at l i) l
-mem-at [] i h = absurd (omega arith)
-mem-at (y ∷ l) zero h = List·Memᴰ·head refl
-mem-at (y ∷ l) (suc i) h = List·Memᴰ·tail (mem-at l i (omega arith))
 
 pub outline-at : (x t : ℕ) → validCell x ≡ true → t ≤ 15 → (i : ℕ) → i < length (outline x t) → OutlineEdge x t (at (outline x t) i)
 outline-at x t valid deep i h = outline-edges x t valid deep _ (mem-at (outline x t) i h)

@@ -18,8 +18,10 @@ use Rattle.scope.specs.Lists.{at, tabulateFrom}
 use Rattle.scope.specs.Cells.{digit, weight, baseCell, resolutionOf, validCell}
 use Rattle.scope.specs.Walk.{Walk, walkDigit, edgeDirection, walkedDigit, spell, edgeAt, firstPosition, firstWalk}
 use Rattle.scope.proofs.Spell.{spell-put, spell-same, spell-high, spell-own}
-use Rattle.scope.proofs.ValidCells.{le-or-lt, cond-lt, valid-top, valid-after}
-use Rattle.scope.proofs.Walks.{edge-is}
+use Rattle.scope.proofs.Tests.{le-or-lt}
+use Rattle.scope.proofs.Cells.{cell-after}
+use Rattle.scope.proofs.ValidCells.{cell-head}
+use Rattle.scope.proofs.Walks.{cond-lt, edge-is}
 
 -- ---- lists by a function
 
@@ -105,7 +107,7 @@ first-deeper c t w h e =
 pub own-digit : (x : ℕ) → validCell x ≡ true → (w : Walk) (k : ℕ) → 0 < k → k ≤ 15 → walkedDigit x (resolutionOf x) (resolutionOf x) w k ≡ digit x k
 own-digit x valid w k p q =
     let c = resolutionOf x in
-    ⊎-elim (λ (h : k ≤ c). rw (le-leb k c h)) (λ (h : c < k). rw (lt-leb k c h) (sym (valid-after x valid k h q))) (le-or-lt k c)
+    ⊎-elim (λ (h : k ≤ c). rw (le-leb k c h)) (λ (h : c < k). rw (lt-leb k c h) (sym (cell-after x valid k h q))) (le-or-lt k c)
 
 -- at the cell's own resolution the edge is the cell with mode 2 and an edge number
 pub edge-own : (x : ℕ) → validCell x ≡ true → (w : Walk)
@@ -113,7 +115,7 @@ pub edge-own : (x : ℕ) → validCell x ≡ true → (w : Walk)
 edge-own x valid w =
     let c = resolutionOf x in
     let a : x ≡ x / 2 ^ 45 * 2 ^ 45 + spell 0 (digit x) 15 = sym (spell-own x) ∙ spell-high (x / 2 ^ 45) (digit x) 15 in
-    let p : x / 2 ^ 45 ≡ (8 * 16 + c) * 128 + baseCell x = valid-top x valid in
+    let p : x / 2 ^ 45 ≡ (8 * 16 + c) * 128 + baseCell x = cell-head x valid in
     rw (edge-is x c c w, spell-same 0 (walkedDigit x c c w) (digit x) 15 (own-digit x valid w)) (omega arith)
 
 -- one level deeper, the digit there is the walk's for 7

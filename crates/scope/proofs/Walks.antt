@@ -19,7 +19,6 @@ use Rattle.scope.specs.Lists.{at}
 use Rattle.scope.specs.Cells.{digit, weight, baseCell}
 use Rattle.scope.specs.Walk.{Walk, Moved, walkDigits, walkDigit, edgeDirections, edgeDirection, still, levelStep, asksParent, move, nextEdgePosition, step, walkedDigit, spell, edgeAt, passedOver, edges}
 use Rattle.scope.proofs.Spell.{built, spell-put, spell-low, spell-high}
-use Rattle.scope.proofs.ValidCells.{cond-lt}
 use Rattle.scope.proofs.Entries.{allBelow, entry-below}
 
 -- ---- the edge at a walk
@@ -31,6 +30,10 @@ walkDigit-lt p = entry-below 7 (lit< tt) walkDigits refl p
 pub edgeDirection-lt : (e : ℕ) → edgeDirection e < 7
 unfolding allBelow
 edgeDirection-lt e = entry-below 7 (lit< tt) edgeDirections refl e
+
+pub cond-lt : (m : ℕ) (b : Bool) (u v : ℕ) → u < m → v < m → cond b u v < m
+cond-lt m true u v p q = p
+cond-lt m false u v p q = q
 
 pub walkedDigit-lt : (x c t : ℕ) (w : Walk) (k : ℕ) → walkedDigit x c t w k < 8
 walkedDigit-lt x c t w k =

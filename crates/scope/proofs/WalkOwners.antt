@@ -5,7 +5,7 @@
 -- Assumes nothing.
 use mathlib.Core.Path.{_≡_, refl, _∙_, sym, subst}
 use mathlib.Core.Bool.{Bool, true, false, cond, _&&_}
-use mathlib.Core.List.{List, [], _∷_, List·Memᴰ, List·Memᴰ·head, List·Memᴰ·tail, List·Memᴰ·not-nil, List·Memᴰ·cases-cons}
+use mathlib.Core.List.{List, _∷_, List·Memᴰ, List·Memᴰ·not-nil, List·Memᴰ·cases-cons}
 use mathlib.Core.Logic.{_⊎_, inl, inr, ⊎-elim}
 use Prim.Native.Nat.{ℕ, zero, suc, _+_, _-_, _*_, _/_, _^_, _<_, _≤_}
 use native.Mathlib.Nat.{eq-or-lt-of-le}

@@ -2,7 +2,9 @@
 --     chain-mono      more pairs join no less
 --     chain-bind      pairs that are joined already join no more
 --     chain-map       a map that takes pairs to pairs takes chains to chains
+--     chain-value     what the two of each pair have in common, all of a chain have
 -- Assumes nothing.
+use mathlib.Core.Path.{_≡_, refl, sym, _∙_}
 use Prim.Native.Nat.{ℕ}
 use Rattle.scope.specs.Standing.{Chain, alone, pair, back, joined}
 
@@ -20,3 +22,9 @@ chain-map f h alone = alone
 chain-map f h (pair {x = x} {y = y} e) = pair (h x y e)
 chain-map f h (back p) = back (chain-map f h p)
 chain-map f h (joined p q) = joined (chain-map f h p) (chain-map f h q)
+
+pub chain-value : {E : ℕ → ℕ → Type 0} (f : ℕ → ℕ) → ((x y : ℕ) → E x y → f x ≡ f y) → {a b : ℕ} → Chain E a b → f a ≡ f b
+chain-value f h alone = refl
+chain-value f h (pair {x = x} {y = y} e) = h x y e
+chain-value f h (back p) = sym (chain-value f h p)
+chain-value f h (joined p q) = chain-value f h p ∙ chain-value f h q

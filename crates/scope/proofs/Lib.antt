@@ -26,3 +26,5 @@ pub mod OrderFree
 pub mod Agree
 pub mod Rings
 pub mod WalkOwners
+pub mod Labels
+pub mod Groups

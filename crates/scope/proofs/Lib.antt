@@ -28,3 +28,4 @@ pub mod Rings
 pub mod WalkOwners
 pub mod Labels
 pub mod Groups
+pub mod Adding

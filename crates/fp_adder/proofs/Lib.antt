@@ -1,0 +1,2 @@
+-- Laws about the answers of this crate.
+pub mod Determined

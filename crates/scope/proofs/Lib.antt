@@ -29,3 +29,7 @@ pub mod WalkOwners
 pub mod Labels
 pub mod Groups
 pub mod Adding
+pub mod Sums
+pub mod Halving
+pub mod Climb
+pub mod Unions

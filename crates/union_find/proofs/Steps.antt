@@ -13,7 +13,7 @@ use lib.Dec.{eqb, ltb}
 use borrow.Author.Tests.{eq-eqb, ne-eqb, lt-ltb, le-ltb}
 use Rattle.scope.specs.Lists.{at}
 use Rattle.scope.specs.UnionFind.{Halved, halve, finding, United, uniteRoots, uniting}
-use Rattle.scope.proofs.Forest.{Forest, rank-low, up, rises-two, turn-here, turn-keeps, halve-turn, halve-keeps, halve-held, halve-root, halve-roots}
+use Rattle.scope.proofs.Halving.{Forest, rank-low, up, rises-two, turn-here, turn-keeps, halve-turn, halve-keeps, halve-held, halve-root, halve-roots}
 use Rattle.scope.proofs.Climb.{find-same}
 use Rattle.scope.proofs.Unions.{hang-keeps, hang-low}
 use Rattle.union_find.specs.Contracts.{Found, HangAsks, Hung, Joined}

@@ -4,7 +4,7 @@ use slices::put32;
 ghost use mathlib.Core.Path.{_≡_};
 ghost use Prim.Native.Nat.{ℕ, _+_, _<_, _≤_, _^_};
 ghost use Rattle.scope.specs.UnionFind.{rootOf};
-ghost use Rattle.scope.proofs.Forest.{Forest};
+ghost use Rattle.scope.proofs.Halving.{Forest};
 ghost use Rattle.union_find.specs.Contracts.{Found, HangAsks, Hung, UnionAsks, Joined, AddAsks, Added};
 
 // A new place `n`, a group of its own.

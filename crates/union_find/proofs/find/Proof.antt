@@ -9,7 +9,7 @@ use mathlib.Core.List.{List}
 use lib.ListN.{length, set, length-set}
 use Rattle.scope.specs.Lists.{at}
 use Rattle.scope.specs.UnionFind.{halve}
-use Rattle.scope.proofs.Forest.{Forest, halve-stop}
+use Rattle.scope.proofs.Halving.{Forest, halve-stop}
 use Rattle.union_find.proofs.Steps.{Turned, find-turn, found}
 use Rattle.union_find.proofs.find.Statement.{statement}
 use Rattle.union_find.proofs.find.Tie as tie

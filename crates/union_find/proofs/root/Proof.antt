@@ -7,7 +7,7 @@ use borrow.Author.Needs.{needs}
 use lib.ListN.{length}
 use Rattle.scope.specs.Lists.{at}
 use Rattle.scope.specs.UnionFind.{climb, rootOf}
-use Rattle.scope.proofs.Forest.{rank-low}
+use Rattle.scope.proofs.Halving.{rank-low}
 use Rattle.scope.proofs.Climb.{climb-on, climb-end}
 use Rattle.union_find.proofs.root.Statement.{statement}
 use Rattle.union_find.proofs.root.Tie as tie

@@ -33,3 +33,8 @@ pub mod Sums
 pub mod Halving
 pub mod Climb
 pub mod Unions
+pub mod Verdicts
+pub mod CellLists
+pub mod CellOffers
+pub mod Rules
+pub mod RulesKept

@@ -1,0 +1,4 @@
+-- Laws that the proofs of this crate cite.
+pub mod Swaps
+pub mod Heaps
+pub mod Ranks

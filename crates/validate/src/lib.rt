@@ -1,0 +1,2 @@
+// Tests of cell lists.
+mod sorting;

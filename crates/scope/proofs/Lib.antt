@@ -38,3 +38,6 @@ pub mod CellLists
 pub mod CellOffers
 pub mod Rules
 pub mod RulesKept
+pub mod Returns
+pub mod Linked
+pub mod Cancelling

@@ -41,3 +41,5 @@ pub mod RulesKept
 pub mod Returns
 pub mod Linked
 pub mod Cancelling
+pub mod Labels
+pub mod Groups

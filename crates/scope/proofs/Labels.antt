@@ -1,140 +1,135 @@
--- Groups by labels: after some pairs, two places have one label exactly when a chain over those pairs joins them.
---     Labelled n E l          the labels l of n places say which of them chains of pairs in E join
+-- Groups by labels: a function of places that tells apart exactly those that no chain of pairs joins. The labels worked out afresh are one,
+-- and so are the roots of a parent forest.
+--     Labelled n E f          of n places, those have one label that chains of pairs in E join
 --     labelled-iff            one label exactly when a chain joins
+--     labelled-chain          the pairs may be put in another way that joins the same; `labelled-alike`: so may the labels
 --     labelled-none           every place its own label: no pair
---     labelled-pair           `relabel` takes in one pair more
+--     Merges n f g low top    of the n places, those of label low get label top
+--     labelled-pair           then g takes in one pair more, whose labels were low and top, either way round
+--     labelled-new            one place more, with a label of its own
 -- Assumes nothing.
 use mathlib.Core.Path.{_≡_, refl, sym, _∙_, ap, subst}
 use mathlib.Core.Logic.{_⊎_, inl, inr, _≢_}
-use mathlib.Core.Bool.{cond}
-use mathlib.Core.List.{List, [], _∷_}
-use Prim.Native.Nat.{ℕ, zero, suc, _+_, _<_}
+use Prim.Native.Nat.{ℕ, suc, _<_}
 use native.Mathlib.Omega.{arith}
-use borrow.Author.Tests.{eq-eqb, ne-eqb}
-use lib.Dec.{eqb}
-use lib.ListN.{length, length-map}
-use Rattle.scope.specs.Lists.{at, tabulate, tabulateFrom}
 use Rattle.scope.specs.Standing.{Chain, alone, pair, back, joined}
-use Rattle.scope.specs.Afresh.{relabel}
 use Rattle.scope.proofs.Members.{cases}
-use Rattle.scope.proofs.Chains.{chain-mono, chain-value}
+use Rattle.scope.proofs.Chains.{chain-mono, chain-bind, chain-value}
 
-pub record Labelled (n : ℕ) (E : ℕ → ℕ → Type 0) (l : List ℕ) : Type 0 where
-  pub len : length l ≡ n
-  pub sound : (p q : ℕ) → p < n → q < n → at l p ≡ at l q → Chain E p q
-  pub complete : (p q : ℕ) → E p q → at l p ≡ at l q
+pub record Labelled (n : ℕ) (E : ℕ → ℕ → Type 0) (f : ℕ → ℕ) : Type 0 where
+  pub sound : (p q : ℕ) → p < n → q < n → f p ≡ f q → Chain E p q
+  pub complete : (p q : ℕ) → E p q → f p ≡ f q
   pub pairs-in : (p q : ℕ) → E p q → (p < n) × (q < n)
 
-pub labelled-iff : {n : ℕ} {E : ℕ → ℕ → Type 0} {l : List ℕ} → Labelled n E l → (p q : ℕ) → p < n → q < n → (at l p ≡ at l q → Chain E p q) × (Chain E p q → at l p ≡ at l q)
-labelled-iff {l = l} L p q h k = (L .sound p q h k, λ c. chain-value (at l) (L .complete) c)
+pub labelled-iff : {n : ℕ} {E : ℕ → ℕ → Type 0} {f : ℕ → ℕ} → Labelled n E f → (p q : ℕ) → p < n → q < n → (f p ≡ f q → Chain E p q) × (Chain E p q → f p ≡ f q)
+labelled-iff {f = f} L p q h k = (L .sound p q h k, λ c. chain-value f (L .complete) c)
 
 -- the pairs may be put in another way
-pub labelled-same : {n : ℕ} {E F : ℕ → ℕ → Type 0} {l : List ℕ} → ((p q : ℕ) → E p q → F p q) → ((p q : ℕ) → F p q → E p q) → Labelled n E l → Labelled n F l
-labelled-same to from L = record {
-  len = L .len;
-  sound = λ p q h k e. chain-mono to (L .sound p q h k e);
-  complete = λ p q f. L .complete p q (from p q f);
-  pairs-in = λ p q f. L .pairs-in p q (from p q f);
+pub labelled-chain : {n : ℕ} {E F : ℕ → ℕ → Type 0} {f : ℕ → ℕ} → ((p q : ℕ) → E p q → Chain F p q) → ((p q : ℕ) → F p q → Chain E p q)
+    → ((p q : ℕ) → F p q → (p < n) × (q < n)) → Labelled n E f → Labelled n F f
+labelled-chain {f = f} to from inside L = record {
+  sound = λ p q h k e. chain-bind to (L .sound p q h k e);
+  complete = λ p q e. chain-value f (L .complete) (from p q e);
+  pairs-in = inside;
 }
 
--- ---- no pair
+pub labelled-same : {n : ℕ} {E F : ℕ → ℕ → Type 0} {f : ℕ → ℕ} → ((p q : ℕ) → E p q → F p q) → ((p q : ℕ) → F p q → E p q) → Labelled n E f → Labelled n F f
+labelled-same to from L = labelled-chain (λ p q e. pair (to p q e)) (λ p q e. pair (from p q e)) (λ p q e. L .pairs-in p q (from p q e)) L
 
-pub tabulate-length : (f : ℕ → ℕ) (i n : ℕ) → length (tabulateFrom f i n) ≡ n
-unfolding tabulateFrom
-tabulate-length f i zero = refl
-tabulate-length f i (suc n) = ap suc (tabulate-length f (suc i) n)
+pub labelled-alike : {n : ℕ} {E : ℕ → ℕ → Type 0} {f g : ℕ → ℕ} → ((p : ℕ) → p < n → g p ≡ f p) → Labelled n E f → Labelled n E g
+labelled-alike e L = record {
+  sound = λ p q h k d. L .sound p q h k (sym (e p h) ∙ d ∙ e q k);
+  complete = λ p q d. let h = L .pairs-in p q d in e p (h .0) ∙ L .complete p q d ∙ sym (e q (h .1));
+  pairs-in = L .pairs-in;
+}
 
-pub tabulate-at : (f : ℕ → ℕ) (i n p : ℕ) → p < n → at (tabulateFrom f i n) p ≡ f (i + p)
-unfolding tabulateFrom
-tabulate-at f i zero p h = absurd (omega arith)
-tabulate-at f i (suc n) zero h = ap f (let z : i ≡ i + 0 = omega arith in z)
-tabulate-at f i (suc n) (suc p) h = tabulate-at f (suc i) n p (omega arith) ∙ ap f (let z : suc i + p ≡ i + suc p = omega arith in z)
-
-pub labelled-none : {E : ℕ → ℕ → Type 0} (n : ℕ) → ((p q : ℕ) → E p q → ⊥) → Labelled n E (tabulate (λ i. i) n)
-labelled-none n none = record {
-  len = tabulate-length (λ i. i) 0 n;
-  sound = λ p q h k e. let d : p ≡ q = same p q (sym (tabulate-at (λ i. i) 0 n p h) ∙ e ∙ tabulate-at (λ i. i) 0 n q k) in subst (Chain _ p) d alone;
+-- no pair
+pub labelled-none : {E : ℕ → ℕ → Type 0} {f : ℕ → ℕ} (n : ℕ) → ((p q : ℕ) → p < n → q < n → f p ≡ f q → p ≡ q) → ((p q : ℕ) → E p q → ⊥) → Labelled n E f
+labelled-none {E} n own none = record {
+  sound = λ p q h k e. subst (Chain E p) (own p q h k e) alone;
   complete = λ p q e. absurd (none p q e);
   pairs-in = λ p q e. absurd (none p q e);
 }
-  where
-    same : (p q : ℕ) → 0 + p ≡ 0 + q → p ≡ q
-    same p q e = omega arith
+
+-- one place more, with a label of its own
+pub labelled-new : {n : ℕ} {E : ℕ → ℕ → Type 0} {f : ℕ → ℕ} → ((p : ℕ) → p < n → f p ≢ f n) → Labelled n E f → Labelled (suc n) E f
+labelled-new {n} {E} {f} own L = record {
+  sound = λ p q h k e. cases p n
+      (λ x. cases q n (λ y. subst (Chain E p) (x ∙ sym y) alone) (λ y. absurd (own q (omega arith) (sym e ∙ ap f x))))
+      (λ x. cases q n (λ y. absurd (own p (omega arith) (e ∙ ap f y))) (λ y. L .sound p q (omega arith) (omega arith) e));
+  complete = L .complete;
+  pairs-in = λ p q e. let h = L .pairs-in p q e in (omega arith, omega arith);
+}
 
 -- ---- one pair more
 
--- the label of a place after label b became a
-module _ (a b : ℕ) where
-  relabel-length : (l : List ℕ) → length (relabel a b l) ≡ length l
-  unfolding relabel
-  relabel-length l = length-map l (λ c. cond (eqb c b) a c)
+-- the places of label low get label top
+pub record Merges (n : ℕ) (f g : ℕ → ℕ) (low top : ℕ) : Type 0 where
+  pub moved : (p : ℕ) → p < n → f p ≡ low → g p ≡ top
+  pub stayed : (p : ℕ) → p < n → f p ≢ low → g p ≡ f p
 
-  relabel-at : (l : List ℕ) (p : ℕ) → p < length l → at (relabel a b l) p ≡ cond (eqb (at l p) b) a (at l p)
-  unfolding relabel
-  relabel-at [] p h = absurd (omega arith)
-  relabel-at (x ∷ l) zero h = refl
-  relabel-at (x ∷ l) (suc p) h = relabel-at l p (omega arith)
+-- the pairs of E and one more
+abbrev pub With : (ℕ → ℕ → Type 0) → ℕ → ℕ → ℕ → ℕ → Type 0
+With E i j p q = E p q ⊎ ((p ≡ i) × (q ≡ j))
 
-  relabel-old : (l : List ℕ) (p : ℕ) → p < length l → at l p ≡ b → at (relabel a b l) p ≡ a
-  relabel-old l p h e = relabel-at l p h ∙ rw (eq-eqb (at l p) b e)
+-- u has label low, v has label top, and a chain of F joins them
+module _ {n : ℕ} {E F : ℕ → ℕ → Type 0} {f g : ℕ → ℕ} {low top : ℕ} (L : Labelled n E f) (M : Merges n f g low top) (u v : ℕ) (hu : u < n) (hv : v < n)
+    (eu : f u ≡ low) (ev : f v ≡ top) (mono : (p q : ℕ) → E p q → F p q) (link : Chain F u v) where
+  old : (p q : ℕ) → p < n → q < n → f p ≡ f q → Chain F p q
+  old p q h k e = chain-mono mono (L .sound p q h k e)
 
-  relabel-other : (l : List ℕ) (p : ℕ) → p < length l → at l p ≢ b → at (relabel a b l) p ≡ at l p
-  relabel-other l p h d = relabel-at l p h ∙ rw (ne-eqb (at l p) b d)
+  to-top : (p : ℕ) → p < n → f p ≡ low → Chain F p v
+  to-top p h e = joined (old p u h hu (e ∙ sym eu)) link
 
-module _ {n : ℕ} {E F : ℕ → ℕ → Type 0} {l : List ℕ} (L : Labelled n E l) (i j : ℕ) (hi : i < n) (hj : j < n)
-    (mono : (p q : ℕ) → E p q → F p q) (new : F i j) (split : (p q : ℕ) → F p q → E p q ⊎ ((p ≡ i) × (q ≡ j))) where
-  m : List ℕ
-  m = relabel (at l i) (at l j) l
+  merged-sound : (p q : ℕ) → p < n → q < n → g p ≡ g q → Chain F p q
+  merged-sound p q h k e = cases (f p) low
+      (λ x. cases (f q) low
+      (λ y. joined (to-top p h x) (back (to-top q k y)))
+      (λ d. joined (to-top p h x) (old v q hv k (ev ∙ sym (M .moved p h x) ∙ e ∙ M .stayed q k d))))
+      (λ c. cases (f q) low
+      (λ y. joined (old p v h hv (sym (M .stayed p h c) ∙ e ∙ M .moved q k y ∙ sym ev)) (back (to-top q k y)))
+      (λ d. old p q h k (sym (M .stayed p h c) ∙ e ∙ M .stayed q k d)))
 
-  below : (p : ℕ) → p < n → p < length l
-  below p h = let e = L .len in omega arith
+  merged-kept : (p q : ℕ) → p < n → q < n → f p ≡ f q → g p ≡ g q
+  merged-kept p q h k e = cases (f p) low
+      (λ x. M .moved p h x ∙ sym (M .moved q k (sym e ∙ x)))
+      (λ c. M .stayed p h c ∙ e ∙ sym (M .stayed q k (λ y. c (e ∙ y))))
 
-  old : (p : ℕ) → p < n → at l p ≡ at l j → at m p ≡ at l i
-  unfolding m
-  old p h e = relabel-old (at l i) (at l j) l p (below p h) e
+  merged-ends : g u ≡ g v
+  merged-ends = cases (f v) low
+      (λ x. merged-kept u v hu hv (eu ∙ sym x))
+      (λ c. M .moved u hu eu ∙ sym ev ∙ sym (M .stayed v hv c))
 
-  other : (p : ℕ) → p < n → at l p ≢ at l j → at m p ≡ at l p
-  unfolding m
-  other p h d = relabel-other (at l i) (at l j) l p (below p h) d
+pub labelled-pair : {n : ℕ} {E : ℕ → ℕ → Type 0} {f g : ℕ → ℕ} {low top : ℕ} → Labelled n E f → Merges n f g low top → (i j : ℕ) → i < n → j < n
+    → ((f i ≡ low) × (f j ≡ top)) ⊎ ((f j ≡ low) × (f i ≡ top)) → Labelled n (With E i j) g
+labelled-pair {n} {E} {f} {g} {low} {top} L M i j hi hj way = record {
+  sound = λ p q h k e. sound p q h k e way;
+  complete = λ p q e. both p q e way;
+  pairs-in = λ p q e. ends p q e;
+}
+  where
+    mono : (p q : ℕ) → E p q → With E i j p q
+    mono p q e = inl e
 
-  chain : (p q : ℕ) → p < n → q < n → at l p ≡ at l q → Chain F p q
-  chain p q h k e = chain-mono mono (L .sound p q h k e)
+    new : Chain (With E i j) i j
+    new = pair (inr (refl, refl))
 
-  -- a place of label b is joined with i
-  moved : (p : ℕ) → p < n → at l p ≡ at l j → Chain F p i
-  moved p h e = joined (chain p j h hj e) (back (pair new))
+    sound : (p q : ℕ) → p < n → q < n → g p ≡ g q → ((f i ≡ low) × (f j ≡ top)) ⊎ ((f j ≡ low) × (f i ≡ top)) → Chain (With E i j) p q
+    sound p q h k e (inl (x, y)) = merged-sound L M i j hi hj x y mono new p q h k e
+    sound p q h k e (inr (x, y)) = merged-sound L M j i hj hi x y mono (back new) p q h k e
 
-  sound : (p q : ℕ) → p < n → q < n → at m p ≡ at m q → Chain F p q
-  sound p q h k e = cases (at l p) (at l j)
-      (λ x. cases (at l q) (at l j)
-      (λ y. joined (moved p h x) (back (moved q k y)))
-      (λ d. joined (moved p h x) (chain i q hi k (sym (old p h x) ∙ e ∙ other q k d))))
-      (λ c. cases (at l q) (at l j)
-      (λ y. joined (chain p i h hi (sym (other p h c) ∙ e ∙ old q k y)) (back (moved q k y)))
-      (λ d. chain p q h k (sym (other p h c) ∙ e ∙ other q k d)))
+    united : ((f i ≡ low) × (f j ≡ top)) ⊎ ((f j ≡ low) × (f i ≡ top)) → g i ≡ g j
+    united (inl (x, y)) = merged-ends L M i j hi hj x y mono new
+    united (inr (x, y)) = sym (merged-ends L M j i hj hi x y mono (back new))
 
-  kept : (p q : ℕ) → p < n → q < n → at l p ≡ at l q → at m p ≡ at m q
-  kept p q h k e = cases (at l p) (at l j)
-      (λ x. old p h x ∙ sym (old q k (sym e ∙ x)))
-      (λ c. other p h c ∙ e ∙ sym (other q k (λ y. c (e ∙ y))))
+    kept : (p q : ℕ) → p < n → q < n → f p ≡ f q → ((f i ≡ low) × (f j ≡ top)) ⊎ ((f j ≡ low) × (f i ≡ top)) → g p ≡ g q
+    kept p q h k e (inl (x, y)) = merged-kept L M i j hi hj x y mono new p q h k e
+    kept p q h k e (inr (x, y)) = merged-kept L M j i hj hi x y mono (back new) p q h k e
 
-  -- i keeps its label, or had that of j
-  united : at m i ≡ at m j
-  united = cases (at l i) (at l j) (λ x. kept i j hi hj x) (λ c. other i hi c ∙ sym (old j hj refl))
+    both : (p q : ℕ) → With E i j p q → ((f i ≡ low) × (f j ≡ top)) ⊎ ((f j ≡ low) × (f i ≡ top)) → g p ≡ g q
+    both p q (inl e) w = let h = L .pairs-in p q e in kept p q (h .0) (h .1) (L .complete p q e) w
+    both p q (inr (x, y)) w = rw (x, y) (united w)
 
-  pub labelled-pair : Labelled n F (relabel (at l i) (at l j) l)
-  unfolding m
-  labelled-pair = record {
-    len = relabel-length (at l i) (at l j) l ∙ L .len;
-    sound = sound;
-    complete = λ p q f. both p q (split p q f);
-    pairs-in = λ p q f. ends p q (split p q f);
-  }
-    where
-      both : (p q : ℕ) → E p q ⊎ ((p ≡ i) × (q ≡ j)) → at (relabel (at l i) (at l j) l) p ≡ at (relabel (at l i) (at l j) l) q
-      both p q (inl e) = let h = L .pairs-in p q e in kept p q (h .0) (h .1) (L .complete p q e)
-      both p q (inr (x, y)) = rw (x, y) united
-
-      ends : (p q : ℕ) → E p q ⊎ ((p ≡ i) × (q ≡ j)) → (p < n) × (q < n)
-      ends p q (inl e) = L .pairs-in p q e
-      ends p q (inr (x, y)) = rw (x, y) (hi, hj)
+    ends : (p q : ℕ) → With E i j p q → (p < n) × (q < n)
+    ends p q (inl e) = L .pairs-in p q e
+    ends p q (inr (x, y)) = rw (x, y) (hi, hj)

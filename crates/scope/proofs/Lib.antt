@@ -42,4 +42,5 @@ pub mod Returns
 pub mod Linked
 pub mod Cancelling
 pub mod Labels
+pub mod LabelsAfresh
 pub mod Groups

@@ -44,3 +44,6 @@ pub mod Cancelling
 pub mod Labels
 pub mod LabelsAfresh
 pub mod Groups
+pub mod States
+pub mod OneMore
+pub mod History

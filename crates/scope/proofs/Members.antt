@@ -98,6 +98,14 @@ fresh-last (y ∷ l) x f n = (λ m. go (List·Memᴰ·append-cases l m), fresh-l
     go (inl m) = f .0 m
     go (inr m) = n (List·Memᴰ·head (sym (List·Memᴰ·eq-of-singleton m)))
 
+pub fresh-front : (l : List ℕ) (x : ℕ) → Fresh (l ++ (x ∷ [])) → Fresh (x ∷ l)
+fresh-front [] x f = f
+fresh-front (y ∷ l) x f =
+    let g = fresh-front l x (f .1) in (
+      λ m. ⊎-elim (λ (e : x ≡ y). f .0 (Memᴰ·append-right l (List·Memᴰ·head (sym e)))) (λ (k : List·Memᴰ x l). g .0 k) (List·Memᴰ·cases-cons m),
+      (λ m. f .0 (Memᴰ·append-left (x ∷ []) m), g .1),
+    )
+
 pub fresh-test : (l : List ℕ) → namesTwice l ≡ false → Fresh l
 unfolding namesTwice
 fresh-test [] e = tt

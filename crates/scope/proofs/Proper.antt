@@ -4,12 +4,12 @@
 --     given-of, given-by             a row is given when it is in the outline of some cell
 --     proper-apart, proper-turns     then the outlines are apart, and `nextOf` permutes the given rows
 --     SameMembers cs ds              the same cells, in whatever order; `proper-same`
---     proper-less                    a proper list without a cell is proper
+--     proper-less, proper-front      a proper list without its first cell is proper, and so is one whose last cell comes first
 -- Assumes nothing.
 use mathlib.Core.Path.{_≡_, refl, sym, _∙_, ap, subst}
 use mathlib.Core.Logic.{_⊎_, inl, inr, _≢_}
 use mathlib.Core.Bool.{Bool, true, false, _&&_, not}
-use mathlib.Core.List.{List, [], _∷_, List·Memᴰ, List·Memᴰ·head, List·Memᴰ·tail, List·Memᴰ·cases-cons, Memᴰ·cast}
+use mathlib.Core.List.{List, [], _∷_, _++_, List·Memᴰ, List·Memᴰ·head, List·Memᴰ·tail, List·Memᴰ·cases-cons, List·Memᴰ·append-cases, List·Memᴰ·eq-of-singleton, Memᴰ·cast, Memᴰ·append-left, Memᴰ·append-right}
 use Prim.Native.Nat.{ℕ, _<_}
 use borrow.Author.Tests.{ltb-true, eqb-true, eqb-false, not-true}
 use lib.Dec.{eqb, ltb}
@@ -21,7 +21,7 @@ use Rattle.scope.specs.Table.{Table, rowCount, reverseOf, outlineRows, a
 use Rattle.scope.specs.Standing.{outlines, Given, GivenBy, nextOf, nextIn}
 use Rattle.scope.proofs.Tests.{and-left, and-right}
 use Rattle.scope.proofs.Scan.{passes-at}
-use Rattle.scope.proofs.Members.{Fresh}
+use Rattle.scope.proofs.Members.{Fresh, fresh-front}
 use Rattle.scope.proofs.Successor.{Reverses, Turns}
 use Rattle.scope.proofs.Outlines.{Apart, turns, nextOf-new, nextOf-old}
 
@@ -112,3 +112,18 @@ proper-same E f P = record {
   once = λ x i. P .once x (E .1 x i);
   apart = λ x y a i j. P .apart x y a (E .1 x i) (E .1 y j);
 }
+
+-- one more cell, at the end or in front
+pub last-first : (cs : List ℕ) (x : ℕ) → SameMembers (cs ++ (x ∷ [])) (x ∷ cs)
+last-first cs x = (λ y m. go y (List·Memᴰ·append-cases cs m), λ y m. back y (List·Memᴰ·cases-cons m))
+  where
+    go : (y : ℕ) → List·Memᴰ y cs ⊎ List·Memᴰ y (x ∷ []) → List·Memᴰ y (x ∷ cs)
+    go y (inl m) = List·Memᴰ·tail m
+    go y (inr m) = List·Memᴰ·head (List·Memᴰ·eq-of-singleton m)
+
+    back : (y : ℕ) → (y ≡ x) ⊎ List·Memᴰ y cs → List·Memᴰ y (cs ++ (x ∷ []))
+    back y (inl e) = Memᴰ·append-right cs (List·Memᴰ·head e)
+    back y (inr m) = Memᴰ·append-left (x ∷ []) m
+
+pub proper-front : {t : Table} (cs : List ℕ) (x : ℕ) → Proper t (cs ++ (x ∷ [])) → Proper t (x ∷ cs)
+proper-front cs x P = proper-same (last-first cs x) (fresh-front cs x (P .distinct)) P

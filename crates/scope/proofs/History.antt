@@ -25,7 +25,7 @@ use Rattle.scope.proofs.Proper.{Proper, SameMembers, proper-front, prop
 use Rattle.scope.proofs.OrderFree.{stands-free, successor-free, group-free}
 use Rattle.scope.proofs.Agree.{stands-test, test-stands, successor-agrees, successor-permutes, standing-permutes, rows-agree}
 use Rattle.scope.proofs.Groups.{TellsGroups, group-by}
-use Rattle.scope.proofs.States.{State, Holds, Placed, Cancelled}
+use Rattle.scope.proofs.States.{State, Holds, Beside, PairsGone}
 use Rattle.scope.proofs.OneMore.{holds-offer, ring-untouched}
 
 -- ---- any mix of accepted and refused offers
@@ -48,8 +48,8 @@ holds-none E = record {
 pub data Reached (t : Table) : List ℕ → State → Type 1 where
   opened : {s : State} → Empty s → Reached t [] s
   refused : {cs : List ℕ} {s : State} (x : ℕ) → Reached t cs s → Reached t cs s
-  accepted : {cs : List ℕ} {x : ℕ} {s s₀ s′ : State} → Reached t cs s → Proper t (cs ++ (x ∷ [])) → Placed t x (length cs) s s₀
-      → Cancelled t (suc (length cs)) s₀ s′ → Reached t (cs ++ (x ∷ [])) s′
+  accepted : {cs : List ℕ} {x : ℕ} {s s₀ s′ : State} → Reached t cs s → Proper t (cs ++ (x ∷ [])) → Beside t x (length cs) s s₀
+      → PairsGone t (suc (length cs)) s₀ s′ → Reached t (cs ++ (x ∷ [])) s′
 
 pub reached-holds : {t : Table} {cs : List ℕ} {s : State} → Reached t cs s → Holds t cs s
 reached-holds (opened E) = holds-none E
@@ -94,8 +94,8 @@ module _ {t : Table} {cs : List ℕ} {s : State} (P : Proper t cs) (K : Holds t 
 
 -- ---- untouched rings
 
-module _ {t : Table} {cs : List ℕ} {x : ℕ} {s s₀ s′ : State} (P : Proper t (cs ++ (x ∷ []))) (K : Holds t cs s) (B : Placed t x (length cs) s s₀)
-    (C : Cancelled t (suc (length cs)) s₀ s′) where
+module _ {t : Table} {cs : List ℕ} {x : ℕ} {s s₀ s′ : State} (P : Proper t (cs ++ (x ∷ []))) (K : Holds t cs s) (B : Beside t x (length cs) s s₀)
+    (C : PairsGone t (suc (length cs)) s₀ s′) where
   pub ring-left : (a : ℕ) → s .has a → ((k : ℕ) → List·Memᴰ (reverseOf t (iter (s .link) k a)) (outlineRows t x) → ⊥) → ring (rowCount t) (s′ .link) a ≡ ring (rowCount t) (s .link) a
   ring-left a h n =
       ring-same (standing-permutes Q) (s′ .link) a (stands-test (outlines t cs) (reverseOf t) a (K .stands a h)) (λ k. subst (λ (b : ℕ). s′ .link b ≡ successor t cs b) (along k) (kept k))

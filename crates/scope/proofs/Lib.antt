@@ -27,7 +27,11 @@ pub mod Agree
 pub mod Rings
 pub mod WalkOwners
 pub mod Labels
+pub mod LabelsAfresh
 pub mod Groups
+pub mod States
+pub mod OneMore
+pub mod History
 pub mod Adding
 pub mod Sums
 pub mod Halving
@@ -41,9 +45,3 @@ pub mod RulesKept
 pub mod Returns
 pub mod Linked
 pub mod Cancelling
-pub mod Labels
-pub mod LabelsAfresh
-pub mod Groups
-pub mod States
-pub mod OneMore
-pub mod History

@@ -26,12 +26,12 @@ use Rattle.scope.proofs.Chains.{chain-mono}
 use Rattle.scope.proofs.Labels.{Labelled, labelled-chain}
 use Rattle.scope.proofs.LabelsAfresh.{TouchAt}
 use Rattle.scope.proofs.Groups.{TellsGroups, group-labels, labels-group, group-places}
-use Rattle.scope.proofs.States.{State, Holds, Placed, Cancels, Unites, Cancelled}
+use Rattle.scope.proofs.States.{State, Holds, Beside, Cancels, Unites, PairsGone}
 
 -- ---- rows and links, with the new cell in front
 
-module _ {t : Table} {cs : List ℕ} {x : ℕ} {s s₀ s′ : State} (P : Proper t (x ∷ cs)) (K : Holds t cs s) (B : Placed t x (length cs) s s₀)
-    (C : Cancelled t (suc (length cs)) s₀ s′) where
+module _ {t : Table} {cs : List ℕ} {x : ℕ} {s s₀ s′ : State} (P : Proper t (x ∷ cs)) (K : Holds t cs s) (B : Beside t x (length cs) s s₀)
+    (C : PairsGone t (suc (length cs)) s₀ s′) where
   -- the rows held, under the name of the definition
   J₀ : Joined (StandsIn t cs) (λ a. List·Memᴰ a (outlineRows t x)) (s₀ .has) (s .link) (nextIn (outlineRows t x)) (s₀ .link)
   J₀ = record {
@@ -94,8 +94,8 @@ module _ (cs : List ℕ) (x : ℕ) where
   pub more-new : at (cs ++ (x ∷ [])) (length cs) ≡ x
   more-new = getD-append-seam cs x [] 0
 
-module _ {t : Table} {cs : List ℕ} {x : ℕ} {s s₀ s′ : State} (P : Proper t (cs ++ (x ∷ []))) (K : Holds t cs s) (B : Placed t x (length cs) s s₀)
-    (C : Cancelled t (suc (length cs)) s₀ s′) where
+module _ {t : Table} {cs : List ℕ} {x : ℕ} {s s₀ s′ : State} (P : Proper t (cs ++ (x ∷ []))) (K : Holds t cs s) (B : Beside t x (length cs) s s₀)
+    (C : PairsGone t (suc (length cs)) s₀ s′) where
   F : Proper t (x ∷ cs)
   F = proper-front cs x P
 

@@ -1,8 +1,8 @@
 -- A state as far as calls read it, what it holds of the accepted cells, and what one accepted offer does to it.
 --     State                 rows held, the next link of each, the place of the cell in whose name it is held, a root for each place
 --     Holds t cs s          the rows held are those that stand for the cells cs, the links their successors, the roots tell the groups
---     Placed                the outline of one more cell beside the rows held
---     Cancelled             all pairs gone, on any state: links by the successor rule over the links before, cells of pairs united
+--     Beside                the outline of one more cell beside the rows held
+--     PairsGone             all pairs gone, on any state: links by the successor rule over the links before, cells of pairs united
 -- Assumes nothing.
 use mathlib.Core.Path.{_≡_}
 use mathlib.Core.Logic.{_⊎_, _≢_}
@@ -31,7 +31,7 @@ pub record Holds (t : Table) (cs : List ℕ) (s : State) : Type 0 where
   pub groups : TellsGroups t cs (s .root)
 
 -- The outline of x beside the rows held, linked in walk order, in the name of place n, which is a root of its own.
-pub record Placed (t : Table) (x n : ℕ) (s s₀ : State) : Type 0 where
+pub record Beside (t : Table) (x n : ℕ) (s s₀ : State) : Type 0 where
   pub rows : Joined (s .has) (λ a. List·Memᴰ a (outlineRows t x)) (s₀ .has) (s .link) (nextIn (outlineRows t x)) (s₀ .link)
   pub old-cell : (a : ℕ) → s .has a → s₀ .cell a ≡ s .cell a
   pub new-cell : (a : ℕ) → List·Memᴰ a (outlineRows t x) → s₀ .cell a ≡ n
@@ -48,7 +48,7 @@ Unites t n s p q = (p < n) × (q < n) × ((s .root p ≡ s .root q) ⊎ Cancels 
 
 -- An edge cancels when its reverse is held; the links left are those of the successor rule over the links before; each cancelled pair
 -- unites its cells, and nothing else does. On any state.
-pub record Cancelled (t : Table) (n : ℕ) (s₀ s′ : State) : Type 0 where
+pub record PairsGone (t : Table) (n : ℕ) (s₀ s′ : State) : Type 0 where
   pub dec : (a : ℕ) → Dec (s₀ .has a)
   pub out : (a : ℕ) → s′ .has a → Stands (s₀ .has) (reverseOf t) a
   pub stay : (a : ℕ) → Stands (s₀ .has) (reverseOf t) a → s′ .has a

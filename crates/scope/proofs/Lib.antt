@@ -45,3 +45,7 @@ pub mod RulesKept
 pub mod Returns
 pub mod Linked
 pub mod Cancelling
+pub mod Seven
+pub mod Odd
+pub mod ExampleKinds
+pub mod Examples

@@ -28,7 +28,7 @@ closed : Shown
 closed = record { refusal = 0; index = 0; kind = 1; polygons = 0; area = 0x7ff8000000000000; lengths = []; groups = [] }
 
 refused : ℕ → ℕ → Shown
-refused number index = record { refusal = number; index = index; kind = 0; polygons = 0; area = 0x7ff8000000000000; lengths = []; groups = [] }
+refused number index = record { refusal = number; index = index; kind = 3; polygons = 0; area = 0x7ff8000000000000; lengths = []; groups = [] }
 
 outlined : ℕ → ℕ → List ℕ → List ℕ → Shown
 outlined polygons area lengths groups = record {

@@ -49,3 +49,4 @@ pub mod Seven
 pub mod Odd
 pub mod ExampleKinds
 pub mod Examples
+pub mod Stores

@@ -66,7 +66,7 @@ prefix-at-once r (suc n) y z =
     (le-or-lt (suc n) r)
 
 -- a digit lies in the low b bits
-low-digit : (x b k : ℕ) → 3 + 3 * (15 - k) ≤ b → x % 2 ^ b / 2 ^ (3 * (15 - k)) % 8 ≡ digit x k
+pub low-digit : (x b k : ℕ) → 3 + 3 * (15 - k) ≤ b → x % 2 ^ b / 2 ^ (3 * (15 - k)) % 8 ≡ digit x k
 low-digit x b k h =
     let j : ℕ = 3 * (15 - k) in
     let e : b ≡ (b - (3 + j)) + (3 + j) = omega arith in

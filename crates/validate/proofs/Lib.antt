@@ -2,3 +2,6 @@
 pub mod Swaps
 pub mod Heaps
 pub mod Ranks
+pub mod Blocks
+pub mod Narrowing
+pub mod Lookups

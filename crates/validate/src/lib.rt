@@ -1,2 +1,3 @@
 // Tests of cell lists.
+mod lookup;
 mod sorting;

@@ -50,3 +50,8 @@ pub mod Odd
 pub mod ExampleKinds
 pub mod Examples
 pub mod Stores
+pub mod Orders
+pub mod Sorting
+pub mod Sorted
+pub mod AreaOrder
+pub mod RingOrder

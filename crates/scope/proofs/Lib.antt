@@ -55,3 +55,4 @@ pub mod Sorting
 pub mod Sorted
 pub mod AreaOrder
 pub mod RingOrder
+pub mod Below

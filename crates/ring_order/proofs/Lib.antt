@@ -1,0 +1,6 @@
+-- Laws that the proofs of the functions cite.
+pub mod Fills
+pub mod Parts
+pub mod Merging
+pub mod Halves
+pub mod Outers

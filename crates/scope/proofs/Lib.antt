@@ -56,3 +56,4 @@ pub mod Sorted
 pub mod AreaOrder
 pub mod RingOrder
 pub mod Below
+pub mod Owning

@@ -57,3 +57,4 @@ pub mod AreaOrder
 pub mod RingOrder
 pub mod Below
 pub mod Owning
+pub mod Puts

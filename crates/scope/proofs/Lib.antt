@@ -58,3 +58,4 @@ pub mod RingOrder
 pub mod Below
 pub mod Owning
 pub mod Puts
+pub mod Lengths

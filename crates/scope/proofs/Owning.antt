@@ -23,7 +23,8 @@ use Rattle.scope.specs.Table.{Table, rowCount, targetOf, isOther, rowOf,
 use Rattle.scope.specs.Rules.{ownedBy}
 use Rattle.scope.proofs.Tests.{either, clash, le-or-lt, and-left, and-right, and-both, all-at, all-from}
 use Rattle.scope.proofs.Scan.{firstBad-lowest}
-use Rattle.scope.proofs.ValidCells.{valid-top, valid-after}
+use Rattle.scope.proofs.Cells.{cell-after}
+use Rattle.scope.proofs.ValidCells.{cell-head}
 use Rattle.scope.proofs.Spell.{spell-same, spell-own}
 use Rattle.scope.proofs.WalkOwners.{outline-edges}
 use Rattle.scope.proofs.CellLists.{ListGood}
@@ -67,13 +68,13 @@ below-under a b B = and-both _ _
 pub cell-same : (x y : ℕ) → validCell x ≡ true → validCell y ≡ true → resolutionOf x ≡ resolutionOf y → baseCell x ≡ baseCell y
     → ((k : ℕ) → 0 < k → k ≤ resolutionOf x → digit x k ≡ digit y k) → x ≡ y
 cell-same x y v w r b d =
-    let top : x / 2 ^ 45 ≡ y / 2 ^ 45 = valid-top x v ∙ rw (r, b) (sym (valid-top y w)) in
+    let top : x / 2 ^ 45 ≡ y / 2 ^ 45 = cell-head x v ∙ rw (r, b) (sym (cell-head y w)) in
     sym (spell-own x) ∙ ap (λ (h : ℕ). spell h (digit x) 15) top ∙ spell-same (y / 2 ^ 45) (digit x) (digit y) 15 each ∙ spell-own y
   where
     each : (k : ℕ) → 0 < k → k ≤ 15 → digit x k ≡ digit y k
     each k p q = ⊎-elim
         (λ (h : k ≤ resolutionOf x). d k p h)
-        (λ (h : resolutionOf x < k). valid-after x v k h q ∙ sym (valid-after y w k (omega arith) q))
+        (λ (h : resolutionOf x < k). cell-after x v k h q ∙ sym (cell-after y w k (omega arith) q))
         (le-or-lt k (resolutionOf x))
 
 -- ---- one cell

@@ -59,3 +59,4 @@ pub mod Below
 pub mod Owning
 pub mod Puts
 pub mod Lengths
+pub mod Placed

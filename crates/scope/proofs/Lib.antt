@@ -60,3 +60,4 @@ pub mod Owning
 pub mod Puts
 pub mod Lengths
 pub mod Placed
+pub mod Sound

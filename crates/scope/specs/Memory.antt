@@ -50,6 +50,9 @@ pub record Output : Type 0 where
   pub area : List Float
   pub edges : List ℕ
 
+abbrev pub output : List ℕ → List ℕ → List ℕ → List Float → List ℕ → Output
+output start size group area edges = record { start = start; size = size; group = group; area = area; edges = edges }
+
 -- ---- reading a state
 
 abbrev pub keptMode : Memory → ℕ

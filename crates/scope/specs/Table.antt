@@ -19,6 +19,9 @@ pub record Table : Type 0 where
   pub reverse : List ℕ
   pub area : List Float
 
+abbrev pub table : List ℕ → List ℕ → List Float → Table
+table edges reverse area = record { edges = edges; reverse = reverse; area = area }
+
 abbrev pub rowCount : Table → ℕ
 rowCount t = length (t .edges)
 

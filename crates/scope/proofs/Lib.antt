@@ -61,3 +61,5 @@ pub mod Puts
 pub mod Lengths
 pub mod Placed
 pub mod Sound
+pub mod Tables
+pub mod RowSearch

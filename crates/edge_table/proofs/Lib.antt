@@ -1,0 +1,4 @@
+-- Laws that the proofs of this crate cite.
+pub mod Floats
+pub mod Halving
+pub mod Outcomes

@@ -1,0 +1,47 @@
+-- What the check answers, test by test: one law for each place where the code returns.
+-- Assumes nothing.
+use Prim.Native.Nat.{ℕ, _<_, _≤_}
+use mathlib.Core.Path.{_≡_}
+use mathlib.Core.Bool.{true, false}
+use lib.Dec.{eqb, leb}
+use lib.ListN.{length}
+use borrow.Author.Tests.{eqb-true, leb-true, lt-ltb, le-ltb}
+use native.Mathlib.Omega.{arith}
+use Rattle.scope.specs.declared.Verdict.the-variants.{Accepted, Refused}
+use Rattle.scope.specs.Lists.{firstBad, passes}
+use Rattle.scope.specs.Table.{Table, rowCount, rowCountFits, hasTarget, rowGood, tableVerdict}
+use Rattle.scope.specs.Memory.{tableAgrees}
+use Rattle.scope.proofs.Tests.{and-left, and-right}
+use Rattle.edge_table.specs.Checks.{checked}
+
+pub some-rows : (n : ℕ) → rowCountFits n ≡ true → 0 < n
+some-rows n fits = let h = leb-true 2 n (and-left (leb 2 n) _ fits) in omega arith
+
+module _ (t : Table) where
+  pub lengths-differ : tableAgrees t ≡ false → Refused 10 0 ≡ checked t
+  unfolding checked
+  lengths-differ e = rw e
+
+  module _ (agree : tableAgrees t ≡ true) where
+    pub enough-terms : rowCount t ≤ length (t .area)
+    enough-terms =
+        let h : length (t .area) ≡ rowCount t = eqb-true _ _ (and-right (eqb (length (t .reverse)) (rowCount t)) _ agree) in
+        omega arith
+
+    pub count-out : rowCountFits (rowCount t) ≡ false → Refused 1 0 ≡ checked t
+    unfolding checked tableVerdict
+    count-out e = rw (agree, e)
+
+    module _ (fits : rowCountFits (rowCount t) ≡ true) where
+      pub targets-differ : passes (hasTarget (t .edges)) (rowCount t) ≡ false → Refused 1 0 ≡ checked t
+      unfolding checked tableVerdict
+      targets-differ e = rw (agree, fits, e)
+
+      module _ (targets : passes (hasTarget (t .edges)) (rowCount t) ≡ true) (bad : ℕ) (lowest : bad ≡ firstBad (rowGood t) (rowCount t)) where
+        pub row-bad : bad < rowCount t → Refused 1 bad ≡ checked t
+        unfolding checked tableVerdict
+        row-bad h = rw (agree, fits, targets, ← lowest, lt-ltb bad (rowCount t) h)
+
+        pub all-good : rowCount t ≤ bad → Accepted ≡ checked t
+        unfolding checked tableVerdict
+        all-good h = rw (agree, fits, targets, ← lowest, le-ltb bad (rowCount t) h)

@@ -1,4 +1,4 @@
 -- Laws that the proofs of this crate cite.
 pub mod Floats
-pub mod Halving
+pub mod Search
 pub mod Outcomes

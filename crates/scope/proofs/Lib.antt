@@ -3,7 +3,6 @@ pub mod Tests
 pub mod Scan
 pub mod Cells
 pub mod Edges
-pub mod Member
 pub mod Spell
 pub mod ValidCells
 pub mod Entries

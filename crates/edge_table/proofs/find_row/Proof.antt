@@ -1,10 +1,11 @@
--- `edge_table::find_row` meets its contract. The ends close on the edge, or on the place where it would stand. The measure falls at each turn from `turns` of the row count on.
+-- `edge_table::find_row` meets its contract. The ends close on the edge, or on the place where it would stand.
+-- The measure is how often what lies between them can still be halved: at most 17 times for 65,536 rows.
 -- Assumes nothing.
 use native.Mathlib.Omega.{arith}
 use borrow.Author.Needs.{needs}
 use Prim.Native.Nat.{_-_}
 use Rattle.scope.proofs.Tables.{ascending}
-use Rattle.edge_table.proofs.Halving.{Halving, halving-start, halving-up, halving-down, met-at, met-past, met-absent, turns, turns-less}
+use Rattle.edge_table.proofs.Search.{Halving, halving-start, halving-up, halving-down, met-at, met-past, met-absent, turns, turns-less}
 use Rattle.edge_table.proofs.find_row.Statement.{statement}
 use Rattle.edge_table.proofs.find_row.Tie as tie
 

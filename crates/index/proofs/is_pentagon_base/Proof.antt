@@ -6,7 +6,7 @@ use Prim.Native.Nat.{_≤_, _-_}
 use lib.ListN.{drop}
 use Rattle.scope.specs.Lists.{member}
 use Rattle.scope.specs.Cells.{pentagonBaseCells}
-use Rattle.scope.proofs.Member.{member-here, member-past, member-end}
+use Rattle.index.proofs.Reading.{member-here, member-past, member-end}
 use Rattle.index.proofs.is_pentagon_base.Statement.{statement}
 use Rattle.index.proofs.is_pentagon_base.Tie as tie
 

@@ -1,4 +1,4 @@
--- `member` over a list that is read from the front: what is left of it has x, or not.
+-- `member` of a table that is read from the front: what is left of it has x, or not.
 --     member-here, member-past, member-end     x stands at place i; it does not; nothing is left
 -- Assumes nothing.
 use Prim.Native.Nat.{ℕ, _+_, _<_, _≤_}

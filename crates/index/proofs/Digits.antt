@@ -2,16 +2,16 @@
 -- of words is the run of fifteen tests that says whether the digits fit the resolution.
 --     digits-fit     that comparison is `all (digitFits x) 15`
 -- Assumes nothing.
-use mathlib.Core.Path.{_≡_, refl, _∙_, ap, sym, subst}
+use mathlib.Core.Path.{_≡_, refl, _∙_, ap, sym}
 use mathlib.Core.Bool.{Bool, true, false, cond, _&&_}
-use mathlib.Core.Logic.{_⊎_, inl, inr, ⊎-elim}
+use mathlib.Core.Logic.{_⊎_, ⊎-elim}
 use Prim.Native.Nat.{ℕ, zero, suc, _+_, _-_, _*_, _/_, _%_, _^_, _<_, _≤_, min}
 use native.Mathlib.Nat.{div-one, zero-sub}
 use native.Mathlib.Omega.{arith}
-use lib.Bits.{bitAnd, and-step, and-shr, and-mod, and-block, and-mask, and-zero-r}
+use lib.Bits.{bitAnd, and-step, and-shr, and-block, and-mask, and-zero-r}
 use lib.Pow.{shr-shr, field, mod-mod-pow}
 use lib.Dec.{eqb, leb, ltb, lit<}
-use borrow.Author.Tests.{eq-eqb, ne-eqb, lt-ltb, le-ltb, le-leb, lt-leb, eqb-true}
+use borrow.Author.Tests.{eq-eqb, ne-eqb, lt-ltb, le-leb, lt-leb, eqb-true}
 use Rattle.scope.specs.Lists.{all, firstBad, from}
 use Rattle.scope.specs.Cells.{digitFits, resolutionOf}
 use Rattle.scope.proofs.Scan.{passes-at}

@@ -3,13 +3,13 @@
 --     pentagon-at-once     `isPentagon`: the digits up to the resolution are those of 0
 -- Assumes nothing.
 use mathlib.Core.Path.{_≡_, refl, _∙_, ap, sym, subst}
-use mathlib.Core.Bool.{Bool, true, false, cond, _&&_, _||_}
+use mathlib.Core.Bool.{Bool, true, false, _&&_, _||_}
 use mathlib.Core.Logic.{⊎-elim}
 use Prim.Native.Nat.{ℕ, zero, suc, _+_, _-_, _*_, _/_, _%_, _^_, _<_, _≤_}
 use native.Mathlib.Nat.{div-one, zero-div}
 use native.Mathlib.Omega.{arith}
 use lib.Pow.{shr-shr, field, mod-mod-pow}
-use lib.Dec.{eqb, leb, ltb}
+use lib.Dec.{eqb, ltb}
 use borrow.Author.Tests.{eq-eqb, lt-ltb, le-ltb, le-leb, lt-leb, eqb-true}
 use Rattle.scope.specs.Lists.{all, member}
 use Rattle.scope.specs.Cells.{resolutionOf, baseCell, weight, digit, digitZero, pentagonBaseCells, isPentagon, under}

@@ -5,17 +5,14 @@
 --     found-at, found-absent    what `findRow` answers in the two cases
 -- Assumes nothing.
 use Prim.Native.Nat.{ℕ, _<_, _≤_}
-use mathlib.Core.Path.{_≡_, sym, _∙_, ap}
-use mathlib.Core.Bool.{Bool, true, false, not, cond}
+use mathlib.Core.Path.{_≡_, ap}
+use mathlib.Core.Bool.{not}
 use mathlib.Core.List.{List}
 use native.Mathlib.Omega.{arith}
-use lib.Dec.{eqb, ltb}
 use lib.ListN.{length}
-use borrow.Author.Tests.{eq-eqb, ne-eqb, eqb-true, eqb-false, lt-ltb, le-ltb, not-true, not-false}
-use Rattle.scope.specs.declared.Found.{Found}
+use borrow.Author.Tests.{eq-eqb, ne-eqb, eqb-true, lt-ltb, le-ltb, not-false}
 use Rattle.scope.specs.declared.Found.the-variants.{At, Absent}
-use Rattle.scope.specs.Lists.{at, firstBad}
-use Rattle.scope.specs.Answers.{foundBelow}
+use Rattle.scope.specs.Lists.{at}
 use Rattle.scope.specs.Table.{isOther, rowOf, findRow}
 use Rattle.scope.proofs.Tests.{clash}
 use Rattle.scope.proofs.Scan.{Lowest, firstBad-lowest, firstBad-is}

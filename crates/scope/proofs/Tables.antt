@@ -9,13 +9,13 @@ use mathlib.Core.List.{List}
 use mathlib.Core.Logic.{⊎-elim}
 use native.Mathlib.Nat.{eq-or-lt-of-le}
 use native.Mathlib.Omega.{arith}
-use lib.Dec.{eqb, leb, ltb}
+use lib.Dec.{eqb, leb}
 use lib.ListN.{length, getD}
 use lib.Ieee.{nan}
 use borrow.Author.Tests.{ne-eqb, ltb-true, leb-true, eqb-true}
 use Rattle.scope.specs.declared.Verdict.the-variants.{Accepted}
-use Rattle.scope.specs.Lists.{at, firstBad, passes}
-use Rattle.scope.specs.Answers.{require, requireNone}
+use Rattle.scope.specs.Lists.{at, passes}
+use Rattle.scope.specs.Answers.{require}
 use Rattle.scope.specs.Cells.{resolutionOf, validEdge}
 use Rattle.scope.specs.Table.{Table, rowCount, reverseOf, isFinite, rowCountFits, targetOf, hasTarget, ascends, paired, rowGood, tableVerdict}
 use Rattle.scope.specs.Memory.{tableAgrees}

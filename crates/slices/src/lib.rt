@@ -1,7 +1,7 @@
 // Lent slices of 32-bit numbers, read and written as usize. Every layer above keeps its numbers so:
 // u32 in memory, usize in the code.
 ghost use mathlib.Core.Path.{_≡_};
-ghost use Prim.Native.Nat.{ℕ, _<_, _^_};
+ghost use Prim.Native.Nat.{_<_, _^_};
 ghost use lib.ListN.{length, set};
 ghost use Rattle.scope.specs.Lists.{at, zeros};
 

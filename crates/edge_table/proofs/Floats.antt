@@ -1,7 +1,7 @@
 -- A float is finite where its difference from itself is equal to itself: an infinity or a NaN less itself is a NaN.
 --     finite-is     the test is `isFinite`
 -- Assumes nothing.
-use mathlib.Core.Path.{_≡_, refl, sym, _∙_, ap}
+use mathlib.Core.Path.{_≡_, refl, sym}
 use mathlib.Core.Bool.{Bool, true, false, cond, _&&_, Bool·beq, not}
 use Prim.Native.Nat.{ℕ, zero, suc, _+_, _-_, _*_, _^_}
 use lib.Dec.{ltb}

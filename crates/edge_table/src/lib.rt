@@ -10,8 +10,8 @@ ghost use mathlib.Core.Bool.{true};
 ghost use Prim.Native.Nat.{_<_, _≤_};
 ghost use lib.ListN.{length};
 ghost use Rattle.scope.specs.Lists.{firstBad, passes};
-ghost use Rattle.scope.specs.Table.{isFinite, hasTarget, ascends, paired, rowGood, findRow};
-ghost use Rattle.edge_table.specs.Checks.{table, checked};
+ghost use Rattle.scope.specs.Table.{table, isFinite, hasTarget, ascends, paired, rowGood, findRow};
+ghost use Rattle.edge_table.specs.Checks.{checked};
 
 // Neither an infinity nor a NaN: x − x is a NaN for these alone, and a NaN is not equal to itself.
 fn is_finite(x: f64) -> bool

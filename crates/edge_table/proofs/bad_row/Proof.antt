@@ -4,10 +4,9 @@ use native.Mathlib.Omega.{arith}
 use borrow.Author.Needs.{needs}
 use Prim.Native.Nat.{_-_}
 use lib.ListN.{length}
-use Rattle.scope.specs.Table.{rowGood}
+use Rattle.scope.specs.Table.{table, rowGood}
 use Rattle.scope.proofs.Tests.{fails, holds}
 use Rattle.scope.proofs.Scan.{Going, going-start, going-more, going-stop, going-done}
-use Rattle.edge_table.specs.Checks.{table}
 use Rattle.edge_table.proofs.bad_row.Statement.{statement}
 use Rattle.edge_table.proofs.bad_row.Tie as tie
 

@@ -2,7 +2,7 @@
 -- Assumes nothing.
 use borrow.Author.Tests.{not-true, not-false}
 use Rattle.scope.proofs.Tests.{fails, holds}
-use Rattle.edge_table.specs.Checks.{table}
+use Rattle.scope.specs.Table.{table}
 use Rattle.edge_table.proofs.Outcomes.{some-rows, enough-terms, lengths-differ, count-out, targets-differ, row-bad, all-good}
 use Rattle.edge_table.proofs.check_table.Statement.{statement}
 use Rattle.edge_table.proofs.check_table.Tie as tie

@@ -62,3 +62,4 @@ pub mod Placed
 pub mod Sound
 pub mod Tables
 pub mod RowSearch
+pub mod Shown

@@ -7,17 +7,18 @@ use mathlib.Core.Path.{_≡_, refl, sym, _∙_, ap, subst}
 use mathlib.Core.Logic.{_⊎_, inl, inr, ⊎-elim}
 use mathlib.Core.Bool.{Bool, true, false, _||_, cond}
 use mathlib.Core.List.{List, [], _∷_, List·Memᴰ, List·Memᴰ·head, List·Memᴰ·tail}
-use Prim.Native.Nat.{ℕ, zero, suc, _+_, _≤_, _<_}
+use Prim.Native.Nat.{ℕ, zero, suc, _≤_, _<_}
 use native.Mathlib.Omega.{arith}
 use borrow.Author.Tests.{eq-eqb, ne-eqb}
 use lib.Dec.{eqb}
 use lib.ListN.{length, length-map}
-use Rattle.scope.specs.Lists.{at, member, tabulate, tabulateFrom}
+use Rattle.scope.specs.Lists.{at, member, tabulate}
 use Rattle.scope.specs.Table.{Table, reverseOf, outlineRows}
 use Rattle.scope.specs.Standing.{Touch}
 use Rattle.scope.specs.Afresh.{someReverse, touches, relabel, labelWith, labelAll}
 use Rattle.scope.proofs.Tests.{either, clash}
 use Rattle.scope.proofs.Members.{cases, member-true, member-mem}
+use Rattle.scope.proofs.Below.{tabulate-length, tabulate-at}
 use Rattle.scope.proofs.Labels.{Labelled, labelled-same, labelled-none, Merges, With, labelled-pair}
 
 -- ---- touching cells
@@ -76,17 +77,6 @@ relabel-merges a b n l e = record {
   stayed = λ p h d. relabel-at a b l p (omega arith) ∙ rw (ne-eqb (at l p) b d);
 }
 
-tabulate-length : (f : ℕ → ℕ) (i n : ℕ) → length (tabulateFrom f i n) ≡ n
-unfolding tabulateFrom
-tabulate-length f i zero = refl
-tabulate-length f i (suc n) = ap suc (tabulate-length f (suc i) n)
-
-tabulate-at : (f : ℕ → ℕ) (i n p : ℕ) → p < n → at (tabulateFrom f i n) p ≡ f (i + p)
-unfolding tabulateFrom
-tabulate-at f i zero p h = absurd (omega arith)
-tabulate-at f i (suc n) zero h = ap f (let z : i ≡ i + 0 = omega arith in z)
-tabulate-at f i (suc n) (suc p) h = tabulate-at f (suc i) n p (omega arith) ∙ ap f (let z : suc i + p ≡ i + suc p = omega arith in z)
-
 -- the labels in a list, one for each cell
 abbrev Labels : Table → List ℕ → ℕ → ℕ → List ℕ → Type 0
 Labels t cs i j l = (length l ≡ length cs) × Labelled (length cs) (Seen t cs i j) (at l)
@@ -131,10 +121,7 @@ module _ (t : Table) (cs : List ℕ) where
   all-labels zero h = (tabulate-length (λ i. i) 0 (length cs), labelled-none (length cs) own (λ p q s. none p q (s .1)))
     where
       own : (p q : ℕ) → p < length cs → q < length cs → at (tabulate (λ i. i) (length cs)) p ≡ at (tabulate (λ i. i) (length cs)) q → p ≡ q
-      own p q h k e = plain (sym (tabulate-at (λ i. i) 0 (length cs) p h) ∙ e ∙ tabulate-at (λ i. i) 0 (length cs) q k)
-        where
-          plain : 0 + p ≡ 0 + q → p ≡ q
-          plain e = omega arith
+      own p q h k e = sym (tabulate-at (λ i. i) (length cs) p h) ∙ e ∙ tabulate-at (λ i. i) (length cs) q k
 
       none : (p q : ℕ) → (p < 0) ⊎ ((p ≡ 0) × (q < 0)) → ⊥
       none p q (inl h) = omega arith

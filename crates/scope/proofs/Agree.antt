@@ -8,13 +8,13 @@
 --     row-ring, row-ring-one         every standing row is in exactly one of them; `starts-fresh`: no ring is listed twice
 -- Assumes nothing.
 use mathlib.Core.Path.{_≡_, refl, sym, _∙_, ap, subst}
-use mathlib.Core.Logic.{_⊎_, inl, inr}
-use mathlib.Core.Bool.{Bool, true, false, _&&_, _||_, not}
+use mathlib.Core.Logic.{inl, inr}
+use mathlib.Core.Bool.{Bool, true, false, _||_, not}
 use mathlib.Core.List.{List, [], _∷_, List·Memᴰ, Memᴰ·map, Memᴰ·of-map}
-use Prim.Native.Nat.{ℕ, suc, _≤_, _<_}
-use Rattle.scope.specs.Lists.{member, below, follow}
+use Prim.Native.Nat.{ℕ, suc, _≤_}
+use Rattle.scope.specs.Lists.{member}
 use Rattle.scope.specs.Table.{Table, rowCount, reverseOf}
-use Rattle.scope.specs.Standing.{Lands, here, on, Given, Stands, outlines, nextOf, GivenBy, StandsIn, SuccessorIn}
+use Rattle.scope.specs.Standing.{Lands, here, on, Given, Stands, outlines, StandsIn, SuccessorIn}
 use Rattle.scope.specs.Afresh.{isGiven, isStanding, successor, standingRows, ring, rings, startsRing, ringStarts}
 use Rattle.scope.proofs.Tests.{clash, and-left, and-right, and-both}
 use Rattle.scope.proofs.Lands.{lands-same, lands-to}

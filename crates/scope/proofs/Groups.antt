@@ -5,7 +5,7 @@
 --     group-lowest                   and it is the lowest place of the group
 --     group-by                       any labels of the places that tell the groups apart have the same lowest places
 -- Assumes nothing.
-use mathlib.Core.Path.{_≡_, refl, sym, _∙_, ap, subst}
+use mathlib.Core.Path.{_≡_, refl, sym, ap, subst}
 use mathlib.Core.Logic.{_↔_}
 use mathlib.Core.Bool.{not}
 use mathlib.Core.List.{List, List·Memᴰ}

@@ -5,9 +5,9 @@
 --     rows-afresh, link-afresh, ring-afresh, group-afresh     what is held is what the functions of Afresh compute
 -- One more accepted cell is `holds-offer` of OneMore, and `ring-untouched` there says of each link what `ring-left` says of the ring.
 -- Assumes nothing.
-use mathlib.Core.Path.{_≡_, refl, sym, _∙_, ap, subst}
-use mathlib.Core.Logic.{_⊎_, inl, inr, _↔_}
-use mathlib.Core.Bool.{true, not}
+use mathlib.Core.Path.{_≡_, sym, _∙_, subst}
+use mathlib.Core.Logic.{_↔_}
+use mathlib.Core.Bool.{not}
 use mathlib.Core.List.{List, [], _∷_, _++_, List·Memᴰ}
 use Prim.Native.Nat.{ℕ, suc, _<_}
 use native.Mathlib.Omega.{arith}
@@ -15,16 +15,15 @@ use lib.Dec.{eqb}
 use lib.ListN.{length}
 use Rattle.scope.specs.Lists.{at, firstBad}
 use Rattle.scope.specs.Table.{Table, rowCount, reverseOf, outlineRows}
-use Rattle.scope.specs.Standing.{Stands, StandsIn, SuccessorIn, OneGroup, outlines}
-use Rattle.scope.specs.Afresh.{isStanding, successor, standingRows, ring, groupPlace}
+use Rattle.scope.specs.Standing.{StandsIn, OneGroup, outlines}
+use Rattle.scope.specs.Afresh.{successor, standingRows, ring, groupPlace}
 use Rattle.scope.proofs.Lands.{lands-unique}
-use Rattle.scope.proofs.Members.{Fresh}
-use Rattle.scope.proofs.Cycle.{iter, iter-in, iter-same, Permutes}
+use Rattle.scope.proofs.Cycle.{iter, iter-in, iter-same}
 use Rattle.scope.proofs.Rings.{ring-same}
 use Rattle.scope.proofs.Proper.{Proper, SameMembers, proper-front, proper-less}
 use Rattle.scope.proofs.OrderFree.{stands-free, successor-free, group-free}
-use Rattle.scope.proofs.Agree.{stands-test, test-stands, successor-agrees, successor-permutes, standing-permutes, rows-agree}
-use Rattle.scope.proofs.Groups.{TellsGroups, group-by}
+use Rattle.scope.proofs.Agree.{stands-test, successor-agrees, successor-permutes, standing-permutes, rows-agree}
+use Rattle.scope.proofs.Groups.{group-by}
 use Rattle.scope.proofs.States.{State, Holds, Beside, PairsGone}
 use Rattle.scope.proofs.OneMore.{holds-offer, ring-untouched}
 

@@ -20,12 +20,12 @@ pub mod Offer
 pub mod Outlines
 pub mod Proper
 pub mod Chains
-pub mod Forest
 pub mod OrderFree
 pub mod Agree
 pub mod Rings
 pub mod WalkOwners
 pub mod Labels
+pub mod Forest
 pub mod LabelsAfresh
 pub mod Groups
 pub mod States

@@ -5,10 +5,10 @@
 --     link-kept            a link to a row whose reverse is not in the new outline is kept
 --     ring-kept            UNTOUCHED RINGS: a ring that holds no reverse of an edge of the new outline keeps every link
 -- Assumes nothing.
-use mathlib.Core.Path.{_≡_, refl, sym, _∙_, ap, subst}
+use mathlib.Core.Path.{_≡_, sym, subst}
 use mathlib.Core.Logic.{_⊎_, inl, inr}
 use Prim.Native.Nat.{ℕ, zero, suc}
-use Rattle.scope.specs.Standing.{Lands, here, on, Stands, Successor}
+use Rattle.scope.specs.Standing.{Lands, here, Stands, Successor}
 use Rattle.scope.proofs.Lands.{lands-stop, lands-same, lands-from, lands-to, lands-map, lands-unique, stage-from}
 use Rattle.scope.proofs.Successor.{Reverses, Turns, rev-given}
 use Rattle.scope.proofs.Cycle.{iter, iter-zero, iter-last}

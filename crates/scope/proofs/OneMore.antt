@@ -7,26 +7,26 @@
 -- Assumes nothing.
 use mathlib.Core.Path.{_≡_, refl, sym, _∙_, ap, subst}
 use mathlib.Core.Logic.{_⊎_, inl, inr, _≢_}
-use mathlib.Core.List.{List, [], _∷_, _++_, List·Memᴰ, List·Memᴰ·head, List·Memᴰ·tail, Memᴰ·cast, Memᴰ·append-left, Memᴰ·append-right}
-use Prim.Native.Nat.{ℕ, suc, _+_, _<_}
+use mathlib.Core.List.{List, [], _∷_, _++_, List·Memᴰ, List·Memᴰ·head, List·Memᴰ·tail}
+use Prim.Native.Nat.{ℕ, suc, _<_}
 use native.Mathlib.Omega.{arith}
 use lib.ListN.{length, length-append, List·getD-append}
 use lib.Seq.{getD-append-seam}
 use Rattle.scope.specs.Lists.{at}
 use Rattle.scope.specs.Table.{Table, rowCount, reverseOf, outlineRows}
-use Rattle.scope.specs.Standing.{Lands, Stands, Successor, nextIn, nextOf, outlines, Chain, alone, pair, back, Touch, GivenBy, StandsIn, SuccessorIn}
+use Rattle.scope.specs.Standing.{nextIn, nextOf, outlines, Chain, alone, pair, back, Touch, GivenBy, StandsIn, SuccessorIn}
 use Rattle.scope.proofs.Members.{cases, Fresh, mem-at, fresh-at}
-use Rattle.scope.proofs.Successor.{Reverses, Turns}
+use Rattle.scope.proofs.Successor.{Turns}
 use Rattle.scope.proofs.Cycle.{iter}
 use Rattle.scope.proofs.Offer.{Joined, stands-in, stands-out, offer-links, ring-stands, ring-kept}
-use Rattle.scope.proofs.Outlines.{Apart, nextIn-in, outlines-join}
+use Rattle.scope.proofs.Outlines.{nextIn-in, outlines-join}
 use Rattle.scope.proofs.Proper.{Proper, proper-less, proper-apart, proper-turns, proper-front, last-first, given-of}
 use Rattle.scope.proofs.OrderFree.{stands-free, successor-free}
 use Rattle.scope.proofs.Chains.{chain-mono}
 use Rattle.scope.proofs.Labels.{Labelled, labelled-chain}
 use Rattle.scope.proofs.LabelsAfresh.{TouchAt}
 use Rattle.scope.proofs.Groups.{TellsGroups, group-labels, labels-group, group-places}
-use Rattle.scope.proofs.States.{State, Holds, Beside, Cancels, Unites, PairsGone}
+use Rattle.scope.proofs.States.{State, Holds, Beside, Unites, PairsGone}
 
 -- ---- rows and links, with the new cell in front
 

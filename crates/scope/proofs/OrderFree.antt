@@ -6,7 +6,7 @@
 use mathlib.Core.Path.{_≡_, sym, _∙_}
 use mathlib.Core.List.{List, List·Memᴰ}
 use Prim.Native.Nat.{ℕ}
-use Rattle.scope.specs.Table.{Table, reverseOf, outlineRows}
+use Rattle.scope.specs.Table.{Table, reverseOf}
 use Rattle.scope.specs.Standing.{outlines, GivenBy, StandsIn, SuccessorIn, OneGroup, nextOf}
 use Rattle.scope.proofs.Successor.{successor-same}
 use Rattle.scope.proofs.Proper.{Proper, SameMembers, given-of, given-by, next-of, proper-apart, proper-turns}

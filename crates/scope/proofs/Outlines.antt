@@ -5,16 +5,16 @@
 --     turns                 then `nextOf` permutes the given rows
 --     outlines-join         ONE MORE CELL: what the laws of Offer ask for
 -- Assumes nothing.
-use mathlib.Core.Path.{_≡_, refl, sym, _∙_, ap, subst}
-use mathlib.Core.Logic.{_⊎_, inl, inr, _≢_}
-use mathlib.Core.Bool.{Bool, true, false, cond}
-use mathlib.Core.List.{List, [], _∷_, List·Memᴰ, List·Memᴰ·head, List·Memᴰ·tail, List·Memᴰ·not-nil, List·Memᴰ·cases-cons, Memᴰ·cast}
-use Prim.Native.Nat.{ℕ, zero, suc, _+_, _-_, _≤_, _<_}
+use mathlib.Core.Path.{_≡_, refl, sym, _∙_, ap}
+use mathlib.Core.Logic.{_⊎_, inl, inr}
+use mathlib.Core.Bool.{cond}
+use mathlib.Core.List.{List, [], _∷_, List·Memᴰ, Memᴰ·cast}
+use Prim.Native.Nat.{ℕ, zero, suc, _<_}
 use native.Mathlib.Omega.{arith}
 use borrow.Author.Tests.{eq-eqb, ne-eqb}
 use lib.Dec.{eqb}
 use lib.ListN.{length}
-use Rattle.scope.specs.Lists.{at, member}
+use Rattle.scope.specs.Lists.{at}
 use Rattle.scope.specs.Standing.{Given, nextAfter, nextIn, nextOf}
 use Rattle.scope.proofs.Members.{cases, Fresh, mem-dec, mem-at, place, fresh-at, member-true, member-false}
 use Rattle.scope.proofs.Successor.{Turns}

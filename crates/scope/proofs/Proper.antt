@@ -7,8 +7,8 @@
 --     proper-less, proper-front      a proper list without its first cell is proper, and so is one whose last cell comes first
 -- Assumes nothing.
 use mathlib.Core.Path.{_≡_, refl, sym, _∙_, ap, subst}
-use mathlib.Core.Logic.{_⊎_, inl, inr, _≢_}
-use mathlib.Core.Bool.{Bool, true, false, _&&_, not}
+use mathlib.Core.Logic.{_⊎_, inl, inr}
+use mathlib.Core.Bool.{Bool, true, _&&_, not}
 use mathlib.Core.List.{List, [], _∷_, _++_, List·Memᴰ, List·Memᴰ·head, List·Memᴰ·tail, List·Memᴰ·cases-cons, List·Memᴰ·append-cases, List·Memᴰ·eq-of-singleton, Memᴰ·cast, Memᴰ·append-left, Memᴰ·append-right}
 use Prim.Native.Nat.{ℕ, _<_}
 use borrow.Author.Tests.{ltb-true, eqb-true, eqb-false, not-true}
@@ -18,7 +18,7 @@ use lib.ListN.{length, getD}
 use Rattle.scope.specs.Lists.{at, passes}
 use Rattle.scope.specs.Cells.{validEdge}
 use Rattle.scope.specs.Table.{Table, rowCount, reverseOf, outlineRows, ascends, paired, isFinite, rowGood}
-use Rattle.scope.specs.Standing.{outlines, Given, GivenBy, nextOf, nextIn}
+use Rattle.scope.specs.Standing.{outlines, GivenBy, nextOf, nextIn}
 use Rattle.scope.proofs.Tests.{and-left, and-right}
 use Rattle.scope.proofs.Scan.{passes-at}
 use Rattle.scope.proofs.Members.{Fresh, fresh-front}

@@ -8,16 +8,16 @@
 -- Assumes nothing.
 use mathlib.Core.Path.{_≡_, refl, sym, _∙_, ap, subst}
 use mathlib.Core.Logic.{_⊎_, inl, inr, ⊎-elim, _≢_}
-use mathlib.Core.Bool.{Bool, true, false, _&&_, cond}
+use mathlib.Core.Bool.{Bool, true, false}
 use mathlib.Core.List.{List, [], _∷_, List·Memᴰ, Memᴰ·cast}
 use Prim.Native.Nat.{ℕ, zero, suc, _+_, _≤_, _<_}
 use native.Mathlib.Omega.{arith}
 use borrow.Author.Tests.{leb-true, leb-false, le-leb, eq-eqb, ne-eqb}
-use lib.Dec.{leb, eqb}
+use lib.Dec.{leb}
 use Rattle.scope.specs.Afresh.{trail, ring, noneBelow, startsRing, ringStarts}
 use Rattle.scope.proofs.Tests.{either, clash, and-left, and-right, and-both}
-use Rattle.scope.proofs.Members.{cases, Fresh, below-mem, mem-below}
-use Rattle.scope.proofs.Cycle.{iter, iter-zero, iter-suc, iter-add, orbit, orbit-mem, mem-orbit, orbit-fresh, Period, Permutes, period, period-most, around, leads-back, iter-in, iter-same, period-same}
+use Rattle.scope.proofs.Members.{Fresh, below-mem, mem-below}
+use Rattle.scope.proofs.Cycle.{iter, iter-zero, iter-suc, iter-add, orbit, orbit-mem, mem-orbit, orbit-fresh, Period, Permutes, period, period-most, around, leads-back, iter-in, period-same}
 
 -- ---- the ring as an orbit
 

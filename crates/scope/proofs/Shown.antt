@@ -2,7 +2,7 @@
 --     stateOf m                  rows with a slot, the row of the next slot, the place of the slot's cell, the root by parents
 --     shows-holds, holds-shows   `Shows t m cs` is `Holds t cs (stateOf m)`
 -- Assumes nothing.
-use mathlib.Core.Path.{_≡_, sym, subst}
+use mathlib.Core.Path.{_≡_}
 use mathlib.Core.List.{List}
 use Prim.Native.Nat.{ℕ, _<_}
 use native.Mathlib.Omega.{arith}

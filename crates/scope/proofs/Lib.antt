@@ -24,6 +24,7 @@ pub mod OrderFree
 pub mod Agree
 pub mod Rings
 pub mod WalkOwners
+pub mod OwnOutline
 pub mod Labels
 pub mod Forest
 pub mod LabelsAfresh

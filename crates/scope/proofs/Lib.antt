@@ -63,4 +63,4 @@ pub mod Placed
 pub mod Sound
 pub mod Tables
 pub mod RowSearch
-pub mod Shown
+pub mod StateOf

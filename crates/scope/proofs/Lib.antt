@@ -64,3 +64,4 @@ pub mod Sound
 pub mod Tables
 pub mod RowSearch
 pub mod StateOf
+pub mod EvenMode

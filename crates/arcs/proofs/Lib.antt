@@ -1,2 +1,3 @@
 -- The laws behind the functions of this crate, over plain lists.
 pub mod Opening
+pub mod Placing

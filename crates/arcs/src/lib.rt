@@ -1,4 +1,6 @@
 // The pool: edges of the accepted outlines in slots, linked to rings. The Rust's `ArcSolvent`.
+pub mod place;
+
 use slices::clear32;
 use slices::clear64;
 use slices::put32;

@@ -1,0 +1,94 @@
+-- `arcs::place::place_rows` meets its contract: each turn is the next of the definition's stores (Placing).
+-- Assumes nothing.
+use native.Mathlib.Omega.{arith}
+use borrow.Author.Needs.{needs}
+use Prim.Native.Nat.{_<_, _-_}
+use lib.ListN.{length}
+use Rattle.arcs.proofs.Placing.{Placing, Slot, placing-start, placing-slot, placing-turn, placing-end}
+use Rattle.arcs.proofs.place.place_rows.Statement.{statement}
+use Rattle.arcs.proofs.place.place_rows.Tie as tie
+
+abbrev Inv-loop : tie.InvT-loop
+Inv-loop slot-row₀ slot-cell₀ row-slot₀ rows place start₀ i₀ slot-row slot-cell row-slot start i =
+    Placing slot-row₀ slot-cell₀ row-slot₀ rows place i start slot-row slot-cell row-slot
+
+abbrev μ-loop : tie.MeasureT-loop
+μ-loop slot-row₀ slot-cell₀ row-slot₀ rows place start₀ i₀ slot-row slot-cell row-slot start i = length rows - i
+
+loop-holds : tie.Need-loop-holds Inv-loop μ-loop
+loop-holds c = placing-start (c .before .before .before .before .pre)
+
+get32-requires : tie.Need-get32-requires Inv-loop μ-loop
+get32-requires c κs = search needs
+
+next-free-requires : tie.Need-next-free-requires Inv-loop μ-loop
+next-free-requires c κs = let l = c .before .before .before .loop .inv in omega (arith, l .cursor, l .long-rows)
+
+-- The slot that the search answers, and the row to be put there.
+slot : (c : tie.After-next-free Inv-loop μ-loop) → Slot (c .before .before .before .before .before .before .before .before .before .pre) (c .before .before .before .before .loop .inv) (c .next-free .result)
+slot c = placing-slot (c .before .before .before .before .before .before .before .before .before .pre) (c .before .before .before .before .loop .inv) (c .before .before .before .loop-test .taken) (c .next-free .ensures)
+
+row-in : (c : tie.After-next-free Inv-loop μ-loop) → c .before .before .get32 .result < length (c .before .before .before .before .before .before .before .before .before .args .row-slot .now)
+row-in c = rw (c .before .before .get32 .ensures .0) (c .before .before .before .before .before .before .before .before .before .pre .in-table (c .before .before .before .before .loop .i) (c .before .before .before .loop-test .taken))
+
+add-put32 : tie.Need-add-put32 Inv-loop μ-loop
+add-put32 c = let p = c .before .before .before .before .before .before .before .before .before .before .pre in let s = slot (c .before) in let r = row-in (c .before) in let l = c .before .before .before .before .before .loop .inv in omega (arith, s .low, p .even, p .slots-fit, p .rows-fit, p .cells-fit, l .long-rows, l .long-cells, l .long-slots)
+
+put32-requires : tie.Need-put32-requires Inv-loop μ-loop
+put32-requires c κs = (let p = c .before .before .before .before .before .before .before .before .before .before .pre in let s = slot (c .before) in let r = row-in (c .before) in let l = c .before .before .before .before .before .loop .inv in omega (arith, s .low, p .even, p .slots-fit, p .rows-fit, p .cells-fit, l .long-rows, l .long-cells, l .long-slots), let p = c .before .before .before .before .before .before .before .before .before .before .pre in let s = slot (c .before) in let r = row-in (c .before) in let l = c .before .before .before .before .before .loop .inv in omega (arith, s .low, p .even, p .slots-fit, p .rows-fit, p .cells-fit, l .long-rows, l .long-cells, l .long-slots))
+
+put32-requires-2 : tie.Need-put32-requires-2 Inv-loop μ-loop
+put32-requires-2 c κs = (let p = c .before .before .before .before .before .before .before .before .before .before .before .before .before .before .pre in let s = slot (c .before .before .before .before .before) in let r = row-in (c .before .before .before .before .before) in let l = c .before .before .before .before .before .before .before .before .before .loop .inv in omega (arith, s .low, p .even, p .slots-fit, p .rows-fit, p .cells-fit, l .long-rows, l .long-cells, l .long-slots), let p = c .before .before .before .before .before .before .before .before .before .before .before .before .before .before .pre in let s = slot (c .before .before .before .before .before) in let r = row-in (c .before .before .before .before .before) in let l = c .before .before .before .before .before .before .before .before .before .loop .inv in omega (arith, s .low, p .even, p .slots-fit, p .rows-fit, p .cells-fit, l .long-rows, l .long-cells, l .long-slots))
+
+add-put32-2 : tie.Need-add-put32-2 Inv-loop μ-loop
+add-put32-2 c = let p = c .before .before .before .before .before .before .before .before .before .before .before .before .before .before .before .before .before .before .pre in let s = slot (c .before .before .before .before .before .before .before .before .before) in let r = row-in (c .before .before .before .before .before .before .before .before .before) in let l = c .before .before .before .before .before .before .before .before .before .before .before .before .before .loop .inv in omega (arith, s .low, p .even, p .slots-fit, p .rows-fit, p .cells-fit, l .long-rows, l .long-cells, l .long-slots)
+
+put32-requires-3 : tie.Need-put32-requires-3 Inv-loop μ-loop
+put32-requires-3 c κs = (let p = c .before .before .before .before .before .before .before .before .before .before .before .before .before .before .before .before .before .before .pre in let s = slot (c .before .before .before .before .before .before .before .before .before) in let r = row-in (c .before .before .before .before .before .before .before .before .before) in let l = c .before .before .before .before .before .before .before .before .before .before .before .before .before .loop .inv in omega (arith, s .low, p .even, p .slots-fit, p .rows-fit, p .cells-fit, l .long-rows, l .long-cells, l .long-slots), let p = c .before .before .before .before .before .before .before .before .before .before .before .before .before .before .before .before .before .before .pre in let s = slot (c .before .before .before .before .before .before .before .before .before) in let r = row-in (c .before .before .before .before .before .before .before .before .before) in let l = c .before .before .before .before .before .before .before .before .before .before .before .before .before .loop .inv in omega (arith, s .low, p .even, p .slots-fit, p .rows-fit, p .cells-fit, l .long-rows, l .long-cells, l .long-slots))
+
+add-start : tie.Need-add-start Inv-loop μ-loop
+add-start c = let p = c .before .before .before .before .before .before .before .before .before .before .before .before .before .before .before .before .before .before .before .before .before .pre in let s = slot (c .before .before .before .before .before .before .before .before .before .before .before .before) in let r = row-in (c .before .before .before .before .before .before .before .before .before .before .before .before) in let l = c .before .before .before .before .before .before .before .before .before .before .before .before .before .before .before .before .loop .inv in omega (arith, s .low, p .even, p .slots-fit, p .rows-fit, p .cells-fit, l .long-rows, l .long-cells, l .long-slots)
+
+add-i : tie.Need-add-i Inv-loop μ-loop
+add-i c = search needs
+
+loop-less : tie.Need-loop-less Inv-loop μ-loop
+loop-less c = search needs
+
+loop-again : tie.Need-loop-again Inv-loop μ-loop
+loop-again c = placing-turn (c .before .before .before .before .before .before .before .before .before .before .before .before .before .before .before .before .before .before .before .before .before .pre) (c .before .before .before .before .before .before .before .before .before .before .before .before .before .before .before .before .loop .inv) (c .before .before .before .before .before .before .before .before .before .before .before .before .before .before .before .loop-test .taken) (slot (c .before .before .before .before .before .before .before .before .before .before .before .before)) (c .before .before .before .before .before .before .before .before .before .before .before .before .before .before .get32 .ensures .0) (c .before .before .before .before .before .before .before .before .before .before .put32 .ensures) (c .before .before .before .before .before .before .put322 .ensures) (c .before .before .put323 .ensures)
+
+same-length : tie.Need-same-length Inv-loop μ-loop
+same-length c = c .before .loop .inv .long-rows
+
+same-length-2 : tie.Need-same-length-2 Inv-loop μ-loop
+same-length-2 c = c .before .loop .inv .long-cells
+
+same-length-3 : tie.Need-same-length-3 Inv-loop μ-loop
+same-length-3 c = c .before .loop .inv .long-slots
+
+returns : tie.Need-returns Inv-loop μ-loop
+returns c = placing-end (c .before .before .before .before .before .before .pre) (c .before .loop .inv) (c .loop-test .left)
+
+pub place-rows-spec : {M : Type 1} → statement M
+place-rows-spec =
+    tie.close
+    (tie.spec
+    Inv-loop
+    μ-loop
+    loop-holds
+    get32-requires
+    next-free-requires
+    add-put32
+    put32-requires
+    put32-requires-2
+    add-put32-2
+    put32-requires-3
+    add-start
+    add-i
+    loop-less
+    loop-again
+    same-length
+    same-length-2
+    same-length-3
+    returns)

@@ -1,3 +1,4 @@
 -- The laws behind the functions of this crate, over plain lists.
 pub mod Opening
 pub mod Placing
+pub mod Linking

@@ -35,3 +35,25 @@ pub record PlacedRows (slotRow slotCell rowSlot o : List ℕ) (n : ℕ) (slotRow
   pub rows : slotRow′ ≡ putAll (slotsIn slotRow o) (map suc o) slotRow
   pub cells : slotCell′ ≡ putAll (slotsIn slotRow o) (replicate (length o) n) slotCell
   pub slots : rowSlot′ ≡ putAll o (map suc (slotsIn slotRow o)) rowSlot
+
+-- The slots of rows that have one.
+abbrev pub slotsAt : List ℕ → List ℕ → List ℕ
+slotsAt rowSlot o = map (λ r. at rowSlot r - 1) o
+
+pub record SlotAsks (rowSlot o : List ℕ) (i : ℕ) : Type 0 where
+  pub within : i < length o
+  pub in-table : at o i < length rowSlot
+  pub has-slot : 0 < at rowSlot (at o i)
+
+-- The rows have slots, in the range of the links. The rest are sizes that fit.
+pub record LinkAsks (prev next rowSlot o : List ℕ) : Type 0 where
+  pub in-table : (i : ℕ) → i < length o → at o i < length rowSlot
+  pub have-slots : (i : ℕ) → i < length o → 0 < at rowSlot (at o i)
+  pub in-pool : (i : ℕ) → i < length o → at rowSlot (at o i) ≤ length next
+  pub even : length prev ≡ length next
+  pub fits : length next < 2 ^ 32
+
+-- Each row's slot is linked to the slot of the row after it, the last one's to the first one's.
+pub record LinkedRows (prev next rowSlot o prev′ next′ : List ℕ) : Type 0 where
+  pub nexts : next′ ≡ putAll (slotsAt rowSlot o) (rotate (slotsAt rowSlot o)) next
+  pub prevs : prev′ ≡ putAll (rotate (slotsAt rowSlot o)) (slotsAt rowSlot o) prev

@@ -4,7 +4,9 @@ use slices::put32;
 ghost use mathlib.Core.Path.{_≡_};
 ghost use Prim.Native.Nat.{_<_, _≤_};
 ghost use lib.ListN.{length};
-ghost use Rattle.arcs.specs.Place.{freeFrom, PlaceAsks, PlacedRows};
+ghost use Rattle.scope.specs.Lists.{at};
+ghost use Rattle.scope.proofs.Outlines.{onward};
+ghost use Rattle.arcs.specs.Place.{freeFrom, PlaceAsks, PlacedRows, slotsAt, SlotAsks, LinkAsks, LinkedRows};
 
 // The lowest free slot from `start` on, or the pool's size where there is none.
 pub fn next_free(slot_row: &[u32], start: usize) -> usize
@@ -42,6 +44,37 @@ pub fn place_rows(
         put32(slot_cell, slot, place);
         put32(row_slot, row, slot + 1);
         start = slot + 1;
+        i += 1;
+    }
+}
+
+// The place after `i` in a round of `n`.
+fn place_after(i: usize, n: usize) -> usize
+    requires { ⌜ i < n ⌝ }
+    ensures { λ r. ⌜ r ≡ onward n i ⌝ }
+{
+    if i + 1 == n { 0 } else { i + 1 }
+}
+
+// The slot of the `i`-th row.
+fn slot_at(row_slot: &[u32], rows: &[u32], i: usize) -> usize
+    requires { ⌜ SlotAsks (now «row_slot») (now rows) i ⌝ }
+    ensures { λ r. ⌜ r ≡ at (slotsAt (now («row_slot» .entry)) (now (rows .entry))) i ⌝ }
+{
+    get32(row_slot, get32(rows, i)) - 1
+}
+
+// Links the slots of an outline's rows in a ring, in their order.
+pub fn link_rows(prev: &mut [u32], next: &mut [u32], row_slot: &[u32], rows: &[u32])
+    requires { ⌜ LinkAsks (now prev) (now next) (now «row_slot») (now rows) ⌝ }
+    ensures { λ _. ⌜ LinkedRows (now (prev .entry)) (now (next .entry)) (now («row_slot» .entry)) (now (rows .entry)) (now (prev .exit)) (now (next .exit)) ⌝ }
+{
+    let mut i = 0;
+    while i < rows.len() {
+        let slot = slot_at(row_slot, rows, i);
+        let after = slot_at(row_slot, rows, place_after(i, rows.len()));
+        put32(next, slot, after);
+        put32(prev, after, slot);
         i += 1;
     }
 }

@@ -2,3 +2,5 @@
 pub mod Opening
 pub mod Placing
 pub mod Linking
+pub mod Round
+pub mod Pair

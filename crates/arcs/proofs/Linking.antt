@@ -11,7 +11,7 @@ use native.Mathlib.Omega.{arith}
 use lib.ListN.{length, set, drop, length-set, drop-of-length-le, length-map}
 use Rattle.scope.specs.Lists.{at, rotate, putAll}
 use Rattle.scope.proofs.Outlines.{onward, onward-lt}
-use Rattle.scope.proofs.Stores.{length-rotate, rotate-at}
+use Rattle.scope.proofs.Puts.{rotate-length, rotate-at}
 use Rattle.arcs.specs.Place.{slotsAt, SlotAsks, LinkAsks, LinkedRows}
 use Rattle.arcs.proofs.Placing.{store-next}
 
@@ -45,7 +45,7 @@ module _ {prev next rowSlot o : List ℕ} (A : LinkAsks prev next rowSlot o) whe
     unfolding putAll
     linking-end h =
         let l : length (slotsAt rowSlot o) ≤ i = omega (arith, many) in
-        let k : length (rotate (slotsAt rowSlot o)) ≤ i = omega (arith, many, length-rotate (slotsAt rowSlot o)) in
+        let k : length (rotate (slotsAt rowSlot o)) ≤ i = omega (arith, many, rotate-length (slotsAt rowSlot o)) in
         record {
           nexts = rw (drop-of-length-le (slotsAt rowSlot o) l) at (L .nexts);
           prevs = rw (drop-of-length-le (rotate (slotsAt rowSlot o)) k) at (L .prevs);
@@ -61,7 +61,7 @@ module _ {prev next rowSlot o : List ℕ} (A : LinkAsks prev next rowSlot o) whe
       linking-turn {s} {j} {t} es ej et en ep =
           let on : t ≡ at (rotate (slotsAt rowSlot o)) i = et ∙ ap (at (slotsAt rowSlot o)) ej ∙ sym turned in
           let m = many in
-          let k = length-rotate (slotsAt rowSlot o) in
+          let k = rotate-length (slotsAt rowSlot o) in
           rw (en, ep, add-one i) (record {
             within = omega arith;
             nexts = store-next (slotsAt rowSlot o) (rotate (slotsAt rowSlot o)) next′ i (omega arith) (omega arith) es on (L .nexts);

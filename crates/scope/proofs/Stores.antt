@@ -1,67 +1,27 @@
--- Stores in a row: the laws of `putAll`, and the members of the lists that placing stores by.
---     putAll-length, putAll-at, putAll-other     as long as before; at a place of ks its value; elsewhere as before
---     putAll-step                                the first store, then the others: a loop's turn
---     length-rotate, rotate-at, rotate-fresh     the list turned by one
---     passing                                    the numbers from i on that pass, ascending; `below-passing`: from 0 on it is `below`
---     passing-next                               its first is the lowest that passes, and the others follow
+-- Stores in a row as a loop makes them, and the numbers that pass a test as a search finds them.
+--     putAll-step       the first store of those left, then the others (the places are in Puts)
+--     passing           the numbers from i on that pass, ascending; `below-passing`: from 0 on it is `below`
+--     passing-next      its first is the lowest that passes, and the others follow
 -- Assumes nothing.
-use mathlib.Core.Path.{_≡_, refl, sym, _∙_, ap, subst}
-use mathlib.Core.Logic.{_⊎_, inl, inr, ⊎-elim, _≢_}
+use mathlib.Core.Path.{_≡_, refl, sym, _∙_, ap}
+use mathlib.Core.Logic.{⊎-elim}
 use mathlib.Core.Bool.{Bool, true, false, not, cond}
-use mathlib.Core.List.{List, [], _∷_, _++_, List·Memᴰ, List·Memᴰ·head, List·Memᴰ·tail, Memᴰ·cast, append-nil}
+use mathlib.Core.List.{List, [], _∷_, _++_, append-nil}
 use Prim.Native.Nat.{ℕ, zero, suc, _+_, _-_, _≤_, _<_}
 use native.Mathlib.Nat.{add-zero}
 use native.Mathlib.Omega.{arith}
-use lib.ListN.{length, set, drop, length-set, length-append, List·getD-append}
-use lib.Seq.{getD-set-same, getD-set-other, drop-cons, getD-append-seam}
-use Rattle.scope.specs.Lists.{at, from, below, putAll, rotate}
-use Rattle.scope.proofs.Tests.{either, clash}
-use Rattle.scope.proofs.Members.{cases, Fresh, fresh-last, mem-at, place}
-use Rattle.scope.proofs.Outlines.{onward, onward-mid, onward-end}
+use lib.ListN.{length, set, drop}
+use lib.Seq.{drop-cons}
+use Rattle.scope.specs.Lists.{at, from, below, putAll}
+use Rattle.scope.proofs.Tests.{either}
 
 -- ---- stores
-
-pub putAll-length : (ks vs l : List ℕ) → length (putAll ks vs l) ≡ length l
-unfolding putAll
-putAll-length [] vs l = refl
-putAll-length (k ∷ ks) [] l = refl
-putAll-length (k ∷ ks) (v ∷ vs) l = putAll-length ks vs (set l k v) ∙ length-set l k v
-
-pub putAll-other : (ks vs l : List ℕ) (a : ℕ) → (List·Memᴰ a ks → ⊥) → at (putAll ks vs l) a ≡ at l a
-unfolding putAll
-putAll-other [] vs l a n = refl
-putAll-other (k ∷ ks) [] l a n = refl
-putAll-other (k ∷ ks) (v ∷ vs) l a n =
-    putAll-other ks vs (set l k v) a (λ m. n (List·Memᴰ·tail m)) ∙ getD-set-other l k a v 0 (λ e. n (List·Memᴰ·head e))
-
-pub putAll-at : (ks vs l : List ℕ) → Fresh ks → length vs ≡ length ks → (i : ℕ) → i < length ks → at ks i < length l → at (putAll ks vs l) (at ks i) ≡ at vs i
-unfolding putAll
-putAll-at [] vs l f e i h b = absurd (omega arith)
-putAll-at (k ∷ ks) [] l f e i h b = absurd (omega arith)
-putAll-at (k ∷ ks) (v ∷ vs) l f e zero h b = putAll-other ks vs (set l k v) k (f .0) ∙ getD-set-same l k v 0 b
-putAll-at (k ∷ ks) (v ∷ vs) l f e (suc i) h b = putAll-at ks vs (set l k v) (f .1) (omega arith) i (omega arith) (rw length-set b)
 
 -- the stores from the i-th on, and the i-th of them first
 pub putAll-step : (ks vs l : List ℕ) (i : ℕ) → i < length ks → i < length vs
     → putAll (drop i ks) (drop i vs) l ≡ putAll (drop (suc i) ks) (drop (suc i) vs) (set l (at ks i) (at vs i))
 unfolding putAll
 putAll-step ks vs l i h k = rw (drop-cons ks i 0 h, drop-cons vs i 0 k)
-
--- ---- turned by one
-
-pub length-rotate : (l : List ℕ) → length (rotate l) ≡ length l
-length-rotate [] = refl
-length-rotate (x ∷ l) = length-append l (x ∷ []) ∙ omega arith
-
-pub rotate-at : (l : List ℕ) (i : ℕ) → i < length l → at (rotate l) i ≡ at l (onward (length l) i)
-rotate-at [] i h = absurd (omega arith)
-rotate-at (x ∷ l) i h = cases (suc i) (length (x ∷ l))
-    (λ e. rw (onward-end (length (x ∷ l)) i e) (ap (at (l ++ (x ∷ []))) (let q : i ≡ length l = omega arith in q) ∙ getD-append-seam l x [] 0))
-    (λ m. rw (onward-mid (length (x ∷ l)) i (omega arith)) (List·getD-append l (x ∷ []) 0 i (omega arith)))
-
-pub rotate-fresh : (l : List ℕ) → Fresh l → Fresh (rotate l)
-rotate-fresh [] f = tt
-rotate-fresh (x ∷ l) f = fresh-last l x (f .1) (f .0)
 
 -- ---- the numbers that pass, from i on
 

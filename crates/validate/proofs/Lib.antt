@@ -5,3 +5,5 @@ pub mod Ranks
 pub mod Blocks
 pub mod Narrowing
 pub mod Lookups
+pub mod Raising
+pub mod Joining

@@ -65,3 +65,7 @@ pub record Raised (part a : List ℕ) : Type 0 where
 pub record LookedOver (part a : List ℕ) (x : ℕ) : Type 0 where
   pub raised : Raised part a
   pub valid : validCell x ≡ true
+
+-- the index j, or `top` where cell j lies under that of `top`; there is no top where `top` is no index
+unfoldable pub topOver : List ℕ → ℕ → ℕ → ℕ
+topOver part j top = cond (ltb top (length part) && under (at part j) (at part top)) top j

@@ -1,3 +1,4 @@
 // Tests of cell lists.
 mod lookup;
+mod parts;
 mod sorting;

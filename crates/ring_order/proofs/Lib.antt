@@ -4,3 +4,4 @@ pub mod Parts
 pub mod Merging
 pub mod Halves
 pub mod Outers
+pub mod Ordering

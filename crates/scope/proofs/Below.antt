@@ -3,6 +3,7 @@
 --     below-count, below-less   how many there are
 --     below-passes              each is below n and passes
 --     below-rises               they ascend
+--     below-same                tests that agree list alike
 --     keep-below                what is kept of a list, by the places of its members
 --     tabulate-at, map-at       the member at a place
 -- Assumes nothing.
@@ -68,6 +69,15 @@ module _ (ok : ℕ → Bool) where
           (λ q. let k : i < length (below ok m) = omega arith in
           rw (List·getD-append (below ok m) (m ∷ []) 0 i k, q, getD-append-seam (below ok m) m [] 0) (below-passes m i k .0))
           (λ d. rw (List·getD-append (below ok m) (m ∷ []) 0 i (omega arith), List·getD-append (below ok m) (m ∷ []) 0 j (omega arith)) (ih (omega arith)))
+
+-- tests that agree below n
+pub below-same : (ok ko : ℕ → Bool) (n : ℕ) → ((i : ℕ) → i < n → ok i ≡ ko i) → below ok n ≡ below ko n
+below-same ok ko zero e = unfold below in refl
+below-same ok ko (suc n) e =
+    ap (below ok) (sym (add-one n)) ∙ ⊎-elim
+    (λ t. below-yes ok n (e n (omega arith) ∙ t) ∙ ap (λ (l : List ℕ). l ++ (n ∷ [])) (below-same ok ko n (λ i h. e i (omega arith))) ∙ sym (below-yes ko n t))
+    (λ t. below-no ok n (e n (omega arith) ∙ t) ∙ below-same ok ko n (λ i h. e i (omega arith)) ∙ sym (below-no ko n t))
+    (either (ko n)) ∙ ap (below ko) (add-one n)
 
 -- ---- what is kept of a list, by the places of its members
 

@@ -65,3 +65,4 @@ pub mod Tables
 pub mod RowSearch
 pub mod StateOf
 pub mod EvenMode
+pub mod Joining

@@ -66,3 +66,4 @@ pub mod RowSearch
 pub mod StateOf
 pub mod EvenMode
 pub mod Joining
+pub mod Pairs

@@ -49,6 +49,9 @@ rowAfter m = nextRow (m .rowSlot) (m .slotRow) (m .next)
 pub record Cancelled (t : Table) (m m′ : Memory) : Type 0 where
   pub pool : slots m′ ≡ slots m
   pub rows : length (m′ .rowSlot) ≡ rowCount t
+  pub cell-count : length (m′ .slotCell) ≡ slots m
+  pub prev-count : length (m′ .prev) ≡ slots m
+  pub next-count : length (m′ .next) ≡ slots m
   pub slot-row : (s : ℕ) → at (m′ .slotRow) s ≡ ifStays t m (at (m .slotRow)) s
   pub slot-cell : (s : ℕ) → at (m′ .slotCell) s ≡ ifStays t m (at (m .slotCell)) s
   pub slot-prev : (s : ℕ) → at (m′ .prev) s ≡ ifStays t m (relinked t m (m .prev)) s
@@ -64,6 +67,9 @@ unfolding cancelled
 cancelled-lists t m ss = record {
   pool = tabulate-length (ifStays t m (at (m .slotRow))) 0 (slots m);
   rows = tabulate-length (rowIfStays t m) 0 (rowCount t);
+  cell-count = tabulate-length (ifStays t m (at (m .slotCell))) 0 (slots m);
+  prev-count = tabulate-length (ifStays t m (relinked t m (m .prev))) 0 (slots m);
+  next-count = tabulate-length (ifStays t m (relinked t m (m .next))) 0 (slots m);
   slot-row = each (at (m .slotRow));
   slot-cell = each (at (m .slotCell));
   slot-prev = each (relinked t m (m .prev));

@@ -67,3 +67,4 @@ pub mod StateOf
 pub mod EvenMode
 pub mod Joining
 pub mod Pairs
+pub mod Taking

@@ -149,14 +149,14 @@ module _ {t : Table} {m p : Memory} {o : List ℕ} (L : Linked t m) (f : Placeab
 
   -- ---- a property of every used slot, by the new slots' places and the old slots
 
-  each-slot : (Q : ℕ → Type 0) → ((i : ℕ) → i < length o → Q (at new i)) → ((s : ℕ) → Used m s → (List·Memᴰ s new → ⊥) → Q s) → (s : ℕ) → Used p s → Q s
+  pub each-slot : (Q : ℕ → Type 0) → ((i : ℕ) → i < length o → Q (at new i)) → ((s : ℕ) → Used m s → (List·Memᴰ s new → ⊥) → Q s) → (s : ℕ) → Used p s → Q s
   each-slot Q a b s u = go (placed-used s u)
     where
       go : ((i : ℕ) × (i < length o) × (at new i ≡ s)) ⊎ (Used m s × (List·Memᴰ s new → ⊥)) → Q s
       go (inl (i, h, e)) = subst Q e (a i h)
       go (inr (v, n)) = b s v n
 
-  each-row : (Q : ℕ → Type 0) → ((i : ℕ) → i < length o → Q (at o i)) → ((r : ℕ) → Has m r → (List·Memᴰ r o → ⊥) → Q r) → (r : ℕ) → Has p r → Q r
+  pub each-row : (Q : ℕ → Type 0) → ((i : ℕ) → i < length o → Q (at o i)) → ((r : ℕ) → Has m r → (List·Memᴰ r o → ⊥) → Q r) → (r : ℕ) → Has p r → Q r
   each-row Q a b r u = go (placed-has r u)
     where
       go : ((i : ℕ) × (i < length o) × (at o i ≡ r)) ⊎ (Has m r × (List·Memᴰ r o → ⊥)) → Q r

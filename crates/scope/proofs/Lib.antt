@@ -68,3 +68,4 @@ pub mod EvenMode
 pub mod Joining
 pub mod Pairs
 pub mod Taking
+pub mod TakingRules

@@ -69,3 +69,4 @@ pub mod Joining
 pub mod Pairs
 pub mod Taking
 pub mod TakingRules
+pub mod Opened

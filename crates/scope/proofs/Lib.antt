@@ -70,3 +70,5 @@ pub mod Pairs
 pub mod Taking
 pub mod TakingRules
 pub mod Opened
+pub mod TakingCells
+pub mod TakingRows

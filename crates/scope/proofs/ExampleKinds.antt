@@ -1,208 +1,249 @@
 -- The kinds of worked example, and the test that an example holds: that the definitions compute what it says.
 -- Assumes nothing.
 use Prim.Native.Nat.{ℕ, _+_, _-_, _*_, _/_, _%_, _^_}
-use mathlib.Core.Bool.{Bool, true, false, _&&_, _||_, cond}
+use mathlib.Core.Bool.{Bool, true, false, _&&_, _||_, not, cond}
 use mathlib.Core.List.{List, [], _∷_, map}
 use lib.Dec.{eqb}
 use lib.Ieee as Ieee
-use lib.Ieee.{binary64, nan}
-use lib.ListN.{length, take, drop, replicate}
+use lib.Ieee.{binary64}
+use lib.ListN.{length, take, drop, getD, set}
 use Rattle.scope.specs.declared.Verdict.{Verdict}
-use Rattle.scope.specs.Lists as Lists
-use Rattle.scope.specs.Answers as Answers
+use Rattle.scope.specs.Lists.{headOr}
 use Rattle.scope.specs.Answers.{refusalOf, indexOf, kindOf, verdictOf, polygonsOf, ringsOf, areaIn}
-use Rattle.scope.specs.Cells as Cells
 use Rattle.scope.specs.Cells.{edgeNumber, resolutionOf}
-use Rattle.scope.specs.Walk as Walk
-use Rattle.scope.specs.Walk.{outline}
-use Rattle.scope.specs.Table as Table
-use Rattle.scope.specs.Table.{Table, rowCount}
-use Rattle.scope.specs.Standing as Standing
-use Rattle.scope.specs.Afresh as Afresh
-use Rattle.scope.specs.Afresh.{rings, groupPlace}
-use Rattle.scope.specs.CellLists as CellLists
-use Rattle.scope.specs.CellLists.{listVerdict, cellVerdict}
-use Rattle.scope.specs.Memory as Memory
+use Rattle.scope.specs.Table.{Table}
 use Rattle.scope.specs.Memory.{Memory, memory, Output, keptMode}
-use Rattle.scope.specs.Rules as Rules
-use Rattle.scope.specs.UnionFind as UnionFind
-use Rattle.scope.specs.Pool as Pool
-use Rattle.scope.specs.Area as Area
-use Rattle.scope.specs.Area.{valueOf, noTerms}
-use Rattle.scope.specs.Order as Order
-use Rattle.scope.specs.Calls as Calls
-use Rattle.scope.specs.Calls.{Outcome, Reading, opening, offering, offeringAll, over, readingOut, dissolving}
+use Rattle.scope.specs.Calls.{Outcome, Reading, over}
+use Rattle.scope.proofs.Computing.{isCell, isEdge, isUnder, walked, summed, noLarger, found, ringsAfresh, groupsAfresh, lent, space, opened, listed, joined, offer, offerAll, read, dissolved}
 
--- Cells offered one after the other to a state newly opened, in lent memory of so many slots and places.
+-- Cells offered one after the other to a state newly opened, in lent memory of so many slots and places; and a ring list and an edge list of
+-- so many records and rows to read it out.
 pub record Offers : Type 0 where
   pub table : Table
   pub mode : ℕ
   pub slots : ℕ
   pub places : ℕ
+  pub records : ℕ
+  pub rows : ℕ
   pub cells : List ℕ
 
--- What read out and dissolve answer and write: a refusal and its index, or 0; the kind of answer, the polygon count and the bits of the first
--- outer area; the length and the group of each ring of the ring list.
+-- What read out and dissolve answer and write: a refusal and its index, or 0; the kind of answer and the polygon count; of each ring of the ring
+-- list its lowest row, its length, its group and the bits of its area.
 pub record Shown : Type 0 where
   pub refusal : ℕ
   pub index : ℕ
   pub kind : ℕ
   pub polygons : ℕ
-  pub area : ℕ
+  pub lowest : List ℕ
   pub lengths : List ℕ
   pub groups : List ℕ
+  pub areas : List ℕ
+
+-- The slices of a state.
+pub data Slice : Type 0 where
+  head : Slice
+  cells : Slice
+  parent : Slice
+  rank : Slice
+  cellMark : Slice
+  slotRow : Slice
+  slotCell : Slice
+  prev : Slice
+  next : Slice
+  rowSlot : Slice
+  rowMark : Slice
+
+-- One number of a state is another.
+pub record Change : Type 0 where
+  pub slice : Slice
+  pub place : ℕ
+  pub value : ℕ
 
 pub data Example : Type 0 where
+  -- These numbers are valid cells, or valid edges, and those are not; these cells lie under a cell, and those do not.
+  validCells : (valid invalid : List ℕ) → Example
+  validEdges : (valid invalid : List ℕ) → Example
+  nests : (cell : ℕ) → (under beside : List ℕ) → Example
   -- The outline of a cell at a target has so many edges; it begins so, each edge by its digits past the cell and its edge number; and
   -- its first edge is this number.
   walks : (cell target count : ℕ) → (begins first : List ℕ) → Example
   -- The adder given these terms answers this number, all by their bits.
   adds : (terms : List ℕ) → (answer : ℕ) → Example
+  -- These areas, by their bits, are each below the next; and those are equal.
+  compares : (ascending equal : List ℕ) → Example
+  -- Find: the root, and the parents that it leaves.
+  finds : (parents : List ℕ) → (place root : ℕ) → (left : List ℕ) → Example
   -- Worked out afresh: the lengths of the rings of these cells, by lowest row; and the groups of the cells at these places.
   surrounds : (table : Table) → (cells lengths places groups : List ℕ) → Example
   -- Opening: the refusal and its index, and the mode that the memory then holds.
   opens : (table : Table) → (slots places mode refusal index kept : ℕ) → Example
-  -- Offers: the last answer's refusal and index.
+  -- Offers: the last answer's refusal and index; the parents and ranks that they leave.
   offers : (run : Offers) → (refusal index : ℕ) → Example
-  -- One more offer after these: refused so, and the memory is as it was.
-  refuses : (run : Offers) → (cell refusal index : ℕ) → Example
-  -- An offer to memory that was never opened: the same.
-  intrudes : (table : Table) → (slots places cell refusal index : ℕ) → Example
-  -- The parents and ranks that offers leave.
   unites : (run : Offers) → (parents ranks : List ℕ) → Example
-  -- Read out after offers. The rows of each ring are those of a ring worked out afresh; the state is as it was.
+  -- One more offer, or one to memory that was never opened: refused so, and the memory is as it was.
+  refuses : (run : Offers) → (cell refusal index : ℕ) → Example
+  intrudes : (table : Table) → (slots places cell refusal index : ℕ) → Example
+  -- Read out after offers, and after a change of the state that they leave. The rows of each ring are those of a ring worked out afresh; the
+  -- state is as it was, and so is what lies past the written part.
   reads : (run : Offers) → (shown : Shown) → Example
+  breaks : (run : Offers) → (changes : List Change) → (refusal : ℕ) → Example
   -- Dissolve in memory that holds anything. It leaves what the offers leave; refused, a newly opened state.
   dissolves : (run : Offers) → (shown : Shown) → Example
   -- A list's checks, and those of one cell against the cells that are held.
   lists : (mode target capacity : ℕ) → (cells : List ℕ) → (refusal index : ℕ) → Example
   joins : (mode target capacity : ℕ) → (held : List ℕ) → (cell refusal index : ℕ) → Example
 
--- ---- equality, computed
+-- ---- equality and tests over lists, computed
 
-sameList : List ℕ → List ℕ → Bool
-sameList [] [] = true
-sameList [] (y ∷ ys) = false
-sameList (x ∷ xs) [] = false
-sameList (x ∷ xs) (y ∷ ys) = eqb x y && sameList xs ys
+same : List ℕ → List ℕ → Bool
+same [] [] = true
+same [] (y ∷ ys) = false
+same (x ∷ xs) [] = false
+same (x ∷ xs) (y ∷ ys) = eqb x y && same xs ys
 
-sameMemory : Memory → Memory → Bool
-unfolding sameList
-sameMemory m n =
-    sameList (m .head) (n .head) && sameList (m .cells) (n .cells) && sameList (m .parent) (n .parent) && sameList (m .rank) (n .rank)
-    && sameList (m .cellMark) (n .cellMark) && sameList (m .slotRow) (n .slotRow) && sameList (m .slotCell) (n .slotCell)
-    && sameList (m .prev) (n .prev) && sameList (m .next) (n .next) && sameList (m .rowSlot) (n .rowSlot) && sameList (m .rowMark) (n .rowMark)
+allSame : List (List ℕ) → List (List ℕ) → Bool
+unfolding same
+allSame [] [] = true
+allSame [] (l ∷ ls) = false
+allSame (k ∷ ks) [] = false
+allSame (k ∷ ks) (l ∷ ls) = same k l && allSame ks ls
+
+allPass : (ℕ → Bool) → List ℕ → Bool
+allPass ok [] = true
+allPass ok (x ∷ l) = ok x && allPass ok l
+
+-- each two neighbours pass
+stepsPass : (ℕ → ℕ → Bool) → ℕ → List ℕ → Bool
+stepsPass ok x [] = true
+stepsPass ok x (y ∷ l) = ok x y && stepsPass ok y l
+
+sum : List ℕ → ℕ
+sum [] = 0
+sum (n ∷ l) = n + sum l
 
 isRefusal : Verdict → ℕ → ℕ → Bool
 unfolding refusalOf indexOf
 isRefusal v number index = eqb (refusalOf v) number && eqb (indexOf v) index
 
--- ---- walk, adder, and what is worked out afresh
+slices : Memory → List (List ℕ)
+slices m =
+    m .head ∷ m .cells ∷ m .parent ∷ m .rank ∷ m .cellMark ∷ m .slotRow ∷ m .slotCell ∷ m .prev ∷ m .next ∷ m .rowSlot ∷ m .rowMark ∷ []
 
--- the digits past resolution c of an edge and its edge number as one octal numeral: 13/3 is 0o133
-shown : ℕ → ℕ → ℕ
-shown c x = x / 2 ^ (3 * (15 - resolutionOf x)) % 8 ^ (resolutionOf x - c) * 8 + edgeNumber x
+-- its place in that list
+placeOf : Slice → ℕ
+placeOf head = 0
+placeOf cells = 1
+placeOf parent = 2
+placeOf rank = 3
+placeOf cellMark = 4
+placeOf slotRow = 5
+placeOf slotCell = 6
+placeOf prev = 7
+placeOf next = 8
+placeOf rowSlot = 9
+placeOf rowMark = 10
 
-walked : ℕ → ℕ → List ℕ
-unfolding Lists.all Lists.member Lists.tabulateFrom Cells.isPentagon Walk.levelStep Walk.move Walk.step Walk.firstWalk Walk.spell Walk.edgeAt Walk.passedOver Walk.edges outline
-walked x t = outline x t
+remade : List (List ℕ) → Memory
+remade ls =
+    let l : ℕ → List ℕ = λ k. getD ls k [] in
+    memory (l 0) (l 1) (l 2) (l 3) (l 4) (l 5) (l 6) (l 7) (l 8) (l 9) (l 10)
 
-summed : List ℕ → ℕ
-unfolding Ieee.ofBits Ieee.toBits Ieee.add Ieee.sub Area.addAll
-summed bs = Ieee.toBits binary64 (valueOf (Area.addAll noTerms (map (Ieee.ofBits binary64) bs)))
+changed : List Change → List (List ℕ) → List (List ℕ)
+unfolding placeOf
+changed [] ls = ls
+changed (c ∷ cs) ls =
+    let k = placeOf (c .slice) in
+    changed cs (set ls k (set (getD ls k []) (c .place) (c .value)))
 
-ringsAfresh : Table → List ℕ → List (List ℕ)
-unfolding walked Lists.from Lists.firstBad Lists.below Lists.follow Table.rowOf Table.outlineRows Standing.nextAfter Standing.nextIn Standing.nextOf Afresh.isGiven Afresh.isStanding Afresh.successor Afresh.trail Afresh.ring Afresh.noneBelow Afresh.startsRing rings
-ringsAfresh t cs = rings t cs
+-- ---- what is read out
 
-groupsAfresh : Table → List ℕ → List ℕ → List ℕ
-unfolding ringsAfresh Afresh.someReverse Afresh.touches Afresh.relabel Afresh.labelWith Afresh.labelAll groupPlace
-groupsAfresh t cs places = map (groupPlace t cs) places
+isOneOf : List (List ℕ) → List ℕ → Bool
+unfolding same
+isOneOf [] l = false
+isOneOf (r ∷ rs) l = same r l || isOneOf rs l
 
--- ---- the calls
+-- the rings that start at these places of an edge list, with these lowest rows and lengths, are among rs
+areAmong : List (List ℕ) → List ℕ → List ℕ → List ℕ → List ℕ → Bool
+unfolding isOneOf
+areAmong rs starts lows [] rows = true
+areAmong rs [] lows (n ∷ sizes) rows = false
+areAmong rs (k ∷ starts) [] (n ∷ sizes) rows = false
+areAmong rs (k ∷ starts) (a ∷ lows) (n ∷ sizes) rows =
+    eqb (headOr 0 (drop k rows)) a && isOneOf rs (take n (drop k rows)) && areAmong rs starts lows sizes rows
 
--- lent memory and outputs, with something in them
-lent : Table → ℕ → ℕ → Memory
-lent t slots places = memory (replicate 2 7) (replicate places 7) (replicate places 7) (replicate places 7) (replicate places 7)
-    (replicate slots 7) (replicate slots 7) (replicate slots 7) (replicate slots 7) (replicate (rowCount t) 7) (replicate (rowCount t) 7)
+-- no area is shown as NaN
+shows : Reading → Output → List (List ℕ) → Shown → Bool
+unfolding isRefusal same areAmong sum Ieee.toBits verdictOf kindOf polygonsOf ringsOf areaIn
+shows q before rs s =
+    isRefusal (verdictOf (q .answer)) (s .refusal) (s .index)
+    && eqb (kindOf (q .answer)) (s .kind) && eqb (polygonsOf (q .answer)) (s .polygons)
+    && eqb (ringsOf (q .answer)) (length (s .lengths)) && eqb (Ieee.toBits binary64 (areaIn (q .answer))) (headOr 0x7ff8000000000000 (s .areas))
+    && same (q .out .size) (over (s .lengths) (before .size)) && same (q .out .group) (over (s .groups) (before .group))
+    && same (map (Ieee.toBits binary64) (q .out .area)) (over (s .areas) (map (Ieee.toBits binary64) (before .area)))
+    && areAmong rs (q .out .start) (s .lowest) (s .lengths) (q .out .edges)
+    && same (drop (length (s .lengths)) (q .out .start)) (drop (length (s .lengths)) (before .start))
+    && same (drop (sum (s .lengths)) (q .out .edges)) (drop (sum (s .lengths)) (before .edges))
 
-space : Output
-space = record { start = replicate 3 7; size = replicate 3 7; group = replicate 3 7; area = replicate 3 nan; edges = replicate 30 7 }
-
-opened : Table → ℕ → ℕ → ℕ → Outcome
-unfolding lent walked Ieee.ofBits Lists.from Lists.firstBad Cells.validCell Cells.ownerOf Cells.validEdge Table.isFinite Table.ascends Table.paired Table.rowGood Table.tableVerdict Memory.opened Memory.lengthsFit Calls.openVerdict opening
-opened t slots places mode = opening t (lent t slots places) mode
-
-offer : Table → Memory → ℕ → Outcome
-unfolding opened ringsAfresh Lists.total Lists.keep Lists.putAll Cells.under CellLists.resolutionFits listVerdict cellVerdict Rules.rowKept Rules.ownedBy Rules.linksKept Rules.slotKept Rules.parentKept Rules.ranksKept Rules.rulesKept UnionFind.halve UnionFind.finding UnionFind.climb UnionFind.rootOf UnionFind.uniting Pool.freeSlots Pool.namesTwice Pool.outlineVerdict Pool.placed Pool.relinked Pool.metFirst Pool.unitePairs Pool.cancelled Pool.taking Calls.stateVerdict Calls.offerVerdict offering
-offer t m x = offering t m x
+fresh : Offers → Outcome
+unfolding opened
+fresh r = opened (r .table) (r .slots) (r .places) (r .mode)
 
 offered : Offers → Outcome
-unfolding offer offeringAll
-offered r = offeringAll (r .table) (opened (r .table) (r .slots) (r .places) (r .mode) .left) (r .cells)
+unfolding fresh offerAll
+offered r = offerAll (r .table) (fresh r .left) (r .cells)
 
-read : Table → Memory → Reading
-unfolding offer space Ieee.add Ieee.sub Ieee.lt Ieee.le Area.addAll Area.areaLe Order.insert Order.sortBy Order.groupOf Order.outerAt Order.ordered Order.polygonCount Order.starts Order.edgeRows Order.readAnswer Calls.written Calls.outputFits Calls.readVerdict readingOut
-read t m = readingOut t m space
-
-dissolved : Offers → Reading
-unfolding offered read Calls.dissolveVerdict Calls.working dissolving
-dissolved r = dissolving (r .table) (lent (r .table) (r .slots) (r .places)) (r .mode) (r .cells) space
+room : Offers → Output
+unfolding space
+room r = space (r .records) (r .rows)
 
 -- ---- the test
 
-isOneOf : List (List ℕ) → List ℕ → Bool
-unfolding sameList
-isOneOf [] l = false
-isOneOf (r ∷ rs) l = sameList r l || isOneOf rs l
-
--- the rings that start at these places of an edge list and have these lengths are among rs
-areAmong : List (List ℕ) → List ℕ → List ℕ → List ℕ → Bool
-unfolding isOneOf
-areAmong rs starts [] edges = true
-areAmong rs [] (n ∷ sizes) edges = false
-areAmong rs (k ∷ starts) (n ∷ sizes) edges = isOneOf rs (take n (drop k edges)) && areAmong rs starts sizes edges
-
-shows : Reading → List (List ℕ) → Shown → Bool
-unfolding isRefusal sameList areAmong Ieee.toBits space verdictOf kindOf polygonsOf ringsOf areaIn
-shows q rs s =
-    isRefusal (verdictOf (q .answer)) (s .refusal) (s .index)
-    && eqb (kindOf (q .answer)) (s .kind) && eqb (polygonsOf (q .answer)) (s .polygons)
-    && eqb (ringsOf (q .answer)) (length (s .lengths)) && eqb (Ieee.toBits binary64 (areaIn (q .answer))) (s .area)
-    && sameList (q .out .size) (over (s .lengths) (space .size)) && sameList (q .out .group) (over (s .groups) (space .group))
-    && areAmong rs (q .out .start) (s .lengths) (q .out .edges)
+-- the digits past resolution c of an edge and its edge number as one octal numeral: 13/3 is 0o133
+digits : ℕ → ℕ → ℕ
+digits c x = x / 2 ^ (3 * (15 - resolutionOf x)) % 8 ^ (resolutionOf x - c) * 8 + edgeNumber x
 
 unfoldable pub holds : Example → Bool
-unfolding sameList isRefusal sameMemory shown walked summed ringsAfresh groupsAfresh opened offer offered read dissolved shows
+unfolding same allSame allPass stepsPass isRefusal slices remade changed shows fresh offered room digits isCell isEdge isUnder walked summed noLarger found ringsAfresh groupsAfresh lent opened listed joined offer read dissolved
+holds (validCells valid invalid) = allPass isCell valid && allPass (λ x. not (isCell x)) invalid
+holds (validEdges valid invalid) = allPass isEdge valid && allPass (λ x. not (isEdge x)) invalid
+holds (nests x under beside) = allPass (λ a. isUnder a x) under && allPass (λ a. not (isUnder a x)) beside
 holds (walks x t n es f) =
     let o = walked x t in
-    eqb (length o) n && sameList (take (length es) (map (shown (resolutionOf x)) o)) es && sameList (take (length f) o) f
+    eqb (length o) n && same (take (length es) (map (digits (resolutionOf x)) o)) es && same (take (length f) o) f
 holds (adds bs b) = eqb (summed bs) b
-holds (surrounds t cs ls ps gs) = sameList (map length (ringsAfresh t cs)) ls && sameList (groupsAfresh t cs ps) gs
+holds (compares up level) =
+    stepsPass (λ x y. noLarger x y && not (noLarger y x)) (headOr 0 up) (drop 1 up)
+    && stepsPass (λ x y. noLarger x y && noLarger y x) (headOr 0 level) (drop 1 level)
+holds (finds ps a root left) = let h = found ps a in eqb (h .root) root && same (h .parents) left
+holds (surrounds t cs ls ps gs) = same (map length (ringsAfresh t cs)) ls && same (groupsAfresh t cs ps) gs
 holds (opens t slots places mode number index kept) =
     let o = opened t slots places mode in
     isRefusal (o .answer) number index && eqb (keptMode (o .left)) kept
 holds (offers r number index) = isRefusal (offered r .answer) number index
+holds (unites r ps rs) = let m = offered r .left in same (m .parent) ps && same (m .rank) rs
 holds (refuses r x number index) =
     let m = offered r .left in
     let o = offer (r .table) m x in
-    isRefusal (o .answer) number index && sameMemory (o .left) m
+    isRefusal (o .answer) number index && allSame (slices (o .left)) (slices m)
 holds (intrudes t slots places x number index) =
     let m = lent t slots places in
     let o = offer t m x in
-    isRefusal (o .answer) number index && sameMemory (o .left) m
-holds (unites r ps rs) = let m = offered r .left in sameList (m .parent) ps && sameList (m .rank) rs
+    isRefusal (o .answer) number index && allSame (slices (o .left)) (slices m)
 holds (reads r s) =
     let m = offered r .left in
-    let q = read (r .table) m in
-    shows q (ringsAfresh (r .table) (r .cells)) s && sameMemory (q .left) m
+    let q = read (r .table) m (room r) in
+    shows q (room r) (ringsAfresh (r .table) (r .cells)) s && allSame (slices (q .left)) (slices m)
+holds (breaks r cs number) =
+    let q = read (r .table) (remade (changed cs (slices (offered r .left)))) (room r) in
+    isRefusal (verdictOf (q .answer)) number 0
 holds (dissolves r s) =
-    let fresh = opened (r .table) (r .slots) (r .places) (r .mode) .left in
     let full = offered r .left in
-    let d = dissolved r in
-    shows d (ringsAfresh (r .table) (r .cells)) s && sameMemory (d .left) (cond (eqb (s .refusal) 0) full fresh)
-holds (lists mode target capacity cs number index) = isRefusal (listVerdict mode target capacity cs) number index
-holds (joins mode target capacity cs x number index) = isRefusal (cellVerdict mode target capacity cs x) number index
+    let empty = fresh r .left in
+    let d = dissolved (r .table) (lent (r .table) (r .slots) (r .places)) (r .mode) (r .cells) (room r) in
+    shows d (room r) (ringsAfresh (r .table) (r .cells)) s
+    && allSame (slices (d .left)) (slices (cond (eqb (s .refusal) 0) full empty))
+holds (lists mode target capacity cs number index) = isRefusal (listed mode target capacity cs) number index
+holds (joins mode target capacity cs x number index) = isRefusal (joined mode target capacity cs x) number index
 
 unfoldable pub every : List Example → Bool
 unfolding holds

@@ -47,6 +47,7 @@ pub mod Linked
 pub mod Cancelling
 pub mod Seven
 pub mod Odd
+pub mod Computing
 pub mod ExampleKinds
 pub mod Examples
 pub mod Stores

@@ -7,3 +7,4 @@ pub mod Narrowing
 pub mod Lookups
 pub mod Raising
 pub mod Joining
+pub mod Stages

@@ -4,3 +4,4 @@ pub mod Placing
 pub mod Linking
 pub mod Round
 pub mod Pair
+pub mod Closing

@@ -1,0 +1,35 @@
+-- `arcs::cancel::merge_arcs` meets its contract: its three steps in a row (Closing).
+-- Assumes nothing.
+use borrow.Author.Needs.{needs}
+use Rattle.arcs.proofs.Closing.{swapped-closed, dropped-closed, pair-all}
+use Rattle.arcs.proofs.cancel.merge_arcs.Statement.{statement}
+use Rattle.arcs.proofs.cancel.merge_arcs.Tie as tie
+
+swap-next-requires : tie.Need-swap-next-requires
+swap-next-requires c κs = search needs
+
+unlink-requires : tie.Need-unlink-requires
+unlink-requires c κs = let s = c .before .before .before .before .before .before .before .before .before .before .before in let a = s .args in let p = s .pre in swapped-closed (a .next .now) (a .prev .now) _ _ (a .x) (a .y) (p .0) (p .1) (p .2) (c .before .before .before .before .before .before .swap-next .ensures .0) (c .before .before .before .before .before .before .swap-next .ensures .1)
+
+unlink-requires-2 : tie.Need-unlink-requires-2
+unlink-requires-2 c κs = let s = c .before .before .before .before .before .before .before .before .before .before .before .before .before .before .before .before .before .before in let a = s .args in let p = s .pre in dropped-closed (a .next .now) (a .prev .now) _ _ (a .x) (a .y) (p .0) (p .1) (p .2) (c .before .before .before .before .before .before .before .before .before .before .before .before .before .swap-next .ensures .0) (c .before .before .before .before .before .before .before .before .before .before .before .before .before .swap-next .ensures .1) _ _ (c .before .before .before .before .before .before .unlink .ensures .0) (c .before .before .before .before .before .before .unlink .ensures .1)
+
+same-length : tie.Need-same-length
+same-length c = search needs
+
+same-length-2 : tie.Need-same-length-2
+same-length-2 c = search needs
+
+returns : tie.Need-returns
+returns c = let s = c .before .before .before .before .before .before .before .before .before .before .before .before .before .before .before .before .before .before .before .before .before .before .before in let a = s .args in let p = s .pre in pair-all (a .next .now) (a .prev .now) _ _ (a .x) (a .y) (p .0) (p .1) (p .2) (c .before .before .before .before .before .before .before .before .before .before .before .before .before .before .before .before .before .before .swap-next .ensures .0) (c .before .before .before .before .before .before .before .before .before .before .before .before .before .before .before .before .before .before .swap-next .ensures .1) _ _ (c .before .before .before .before .before .before .before .before .before .before .before .unlink .ensures .0) (c .before .before .before .before .before .before .before .before .before .before .before .unlink .ensures .1) _ _ (c .before .before .before .before .unlink2 .ensures .0) (c .before .before .before .before .unlink2 .ensures .1)
+
+pub merge-arcs-spec : {M : Type 1} → statement M
+merge-arcs-spec =
+    tie.close
+    (tie.spec
+    swap-next-requires
+    unlink-requires
+    unlink-requires-2
+    same-length
+    same-length-2
+    returns)

@@ -1,0 +1,48 @@
+-- `arcs::cancel::swap_next` meets its contract: four stores, each at a link in range.
+-- Assumes nothing.
+use native.Mathlib.Omega.{arith}
+use borrow.Author.Needs.{needs}
+use Rattle.arcs.proofs.Closing.{links-in, swap-stored}
+use Rattle.arcs.proofs.cancel.swap_next.Statement.{statement}
+use Rattle.arcs.proofs.cancel.swap_next.Tie as tie
+
+get32-requires : tie.Need-get32-requires
+get32-requires c κs = search needs
+
+get32-requires-2 : tie.Need-get32-requires-2
+get32-requires-2 c κs = search needs
+
+put32-requires : tie.Need-put32-requires
+put32-requires c κs = search needs
+
+put32-requires-2 : tie.Need-put32-requires-2
+put32-requires-2 c κs = search needs
+
+put32-requires-3 : tie.Need-put32-requires-3
+put32-requires-3 c κs = let p = c .before .before .before .before .before .before .before .before .before .before .before .before .before .before .before .pre in let a = c .before .before .before .before .before .before .before .before .before .before .before .before .before .before .before .args in let lx = links-in (p .0) (a .x) (p .1) in let ly = links-in (p .0) (a .y) (p .2) in let ex = c .before .before .before .before .before .before .before .before .before .before .before .get32 .ensures .0 in let ey = c .before .before .before .before .before .before .before .before .before .get322 .ensures .0 in let f = p .0 .fits in let e = p .0 .even in (omega arith, omega arith)
+
+put32-requires-4 : tie.Need-put32-requires-4
+put32-requires-4 c κs = let p = c .before .before .before .before .before .before .before .before .before .before .before .before .before .before .before .before .before .before .before .pre in let a = c .before .before .before .before .before .before .before .before .before .before .before .before .before .before .before .before .before .before .before .args in let lx = links-in (p .0) (a .x) (p .1) in let ly = links-in (p .0) (a .y) (p .2) in let ex = c .before .before .before .before .before .before .before .before .before .before .before .before .before .before .before .get32 .ensures .0 in let ey = c .before .before .before .before .before .before .before .before .before .before .before .before .before .get322 .ensures .0 in let f = p .0 .fits in let e = p .0 .even in let k = c .before .before .before .put323 .kept .0 in (omega arith, omega arith)
+
+same-length : tie.Need-same-length
+same-length c = search needs
+
+same-length-2 : tie.Need-same-length-2
+same-length-2 c = search needs
+
+returns : tie.Need-returns
+returns c = let a = c .before .before .before .before .before .before .before .before .before .before .before .before .before .before .before .before .before .before .before .before .before .before .args in swap-stored (a .next .now) (a .prev .now) (a .x) (a .y) (c .before .before .before .before .before .before .before .before .before .before .before .before .before .before .before .before .before .before .get32 .ensures .0) (c .before .before .before .before .before .before .before .before .before .before .before .before .before .before .before .before .get322 .ensures .0) (c .before .before .before .before .before .before .before .before .before .before .before .before .before .before .put32 .ensures) (c .before .before .before .before .before .before .before .before .before .before .put322 .ensures) (c .before .before .before .before .before .before .put323 .ensures) (c .before .before .put324 .ensures)
+
+pub swap-next-spec : {M : Type 1} → statement M
+swap-next-spec =
+    tie.close
+    (tie.spec
+    get32-requires
+    get32-requires-2
+    put32-requires
+    put32-requires-2
+    put32-requires-3
+    put32-requires-4
+    same-length
+    same-length-2
+    returns)

@@ -5,3 +5,4 @@ pub mod Linking
 pub mod Round
 pub mod Pair
 pub mod Closing
+pub mod Pairs

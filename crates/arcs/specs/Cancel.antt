@@ -1,10 +1,13 @@
 -- Taking a pair of slots out of the pool, store by store.
 -- Assumes nothing.
 use mathlib.Core.Path.{_≡_}
-use mathlib.Core.List.{List}
-use Prim.Native.Nat.{ℕ, _-_, _<_, _≤_, _^_}
+use mathlib.Core.List.{List, []}
+use Prim.Native.Nat.{ℕ, _<_, _≤_, _^_}
 use lib.ListN.{length, set}
 use Rattle.scope.specs.Lists.{at}
+use Rattle.scope.specs.Memory.{Memory, memory, slots, slotOf}
+use Rattle.scope.specs.UnionFind.{United, uniting}
+use Rattle.scope.proofs.Halving.{Forest}
 
 -- ---- the links
 
@@ -45,3 +48,53 @@ pub record Closed (prev next : List ℕ) : Type 0 where
   pub next-below : (i : ℕ) → i < length next → at next i < length next
   pub prev-below : (i : ℕ) → i < length prev → at prev i < length prev
   pub fits : length next ≤ 2 ^ 32
+
+-- ---- a pair leaves the pool
+
+-- The pool of a state, the rest of it left out.
+abbrev pub pool : List ℕ → List ℕ → List ℕ → List ℕ → List ℕ → List ℕ → List ℕ → Memory
+pool parent rank slotRow slotCell prev next rowSlot = memory [] [] parent rank [] slotRow slotCell prev next rowSlot []
+
+-- Both rows have slots, which are in the pool, and the slots' cells are held. The rest are sizes that fit.
+pub record PairAsks (m : Memory) (n row back : ℕ) : Type 0 where
+  pub row-in : row < length (m .rowSlot)
+  pub back-in : back < length (m .rowSlot)
+  pub row-has : 0 < at (m .rowSlot) row
+  pub back-has : 0 < at (m .rowSlot) back
+  pub row-slot : slotOf m row < slots m
+  pub back-slot : slotOf m back < slots m
+  pub row-cell : at (m .slotCell) (slotOf m row) < n
+  pub back-cell : at (m .slotCell) (slotOf m back) < n
+  pub forest : Forest (m .parent) (m .rank) n
+  pub closed : Closed (m .prev) (m .next)
+  pub even-cell : length (m .slotCell) ≡ slots m
+  pub even-next : length (m .next) ≡ slots m
+  pub cells-fit : n < 2 ^ 32
+
+pub record FreeAsks (m : Memory) (x y row back : ℕ) : Type 0 where
+  pub x-in : x < slots m
+  pub y-in : y < slots m
+  pub row-in : row < length (m .rowSlot)
+  pub back-in : back < length (m .rowSlot)
+  pub even-cell : length (m .slotCell) ≡ slots m
+  pub even-prev : length (m .prev) ≡ slots m
+  pub even-next : length (m .next) ≡ slots m
+
+-- The slots x and y are free again: their four numbers are cleared, and so are the slots of their rows.
+pub record Freed (m : Memory) (x y row back : ℕ) (m′ : Memory) : Type 0 where
+  pub slot-row : m′ .slotRow ≡ clearTwo (m .slotRow) x y
+  pub slot-cell : m′ .slotCell ≡ clearTwo (m .slotCell) x y
+  pub prev : m′ .prev ≡ clearTwo (m .prev) x y
+  pub next : m′ .next ≡ clearTwo (m .next) x y
+  pub row-slot : m′ .rowSlot ≡ clearTwo (m .rowSlot) row back
+
+-- The cells of the two slots are united, in this order, the slots leave their rings, and are free again.
+pub record PairCancelled (m : Memory) (n row back : ℕ) (m′ : Memory) : Type 0 where
+  pub united : record { parents = m′ .parent; ranks = m′ .rank }
+      ≡ uniting (m .parent) (m .rank) (at (m .slotCell) (slotOf m row)) (at (m .slotCell) (slotOf m back))
+  pub forest : Forest (m′ .parent) (m′ .rank) n
+  pub slot-row : m′ .slotRow ≡ clearTwo (m .slotRow) (slotOf m row) (slotOf m back)
+  pub slot-cell : m′ .slotCell ≡ clearTwo (m .slotCell) (slotOf m row) (slotOf m back)
+  pub prev : m′ .prev ≡ clearTwo (pairPrev (m .next) (m .prev) (slotOf m row) (slotOf m back)) (slotOf m row) (slotOf m back)
+  pub next : m′ .next ≡ clearTwo (pairNext (m .next) (m .prev) (slotOf m row) (slotOf m back)) (slotOf m row) (slotOf m back)
+  pub row-slot : m′ .rowSlot ≡ clearTwo (m .rowSlot) row back

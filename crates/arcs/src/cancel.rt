@@ -1,10 +1,12 @@
 // Cancelling: an edge whose reverse has a slot leaves the pool with it, and their cells are united.
 use slices::get32;
 use slices::put32;
+use union_find::union;
 ghost use mathlib.Core.Path.{_≡_};
-ghost use Prim.Native.Nat.{_<_, _≤_};
+ghost use mathlib.Core.List.{[]};
+ghost use Prim.Native.Nat.{_<_};
 ghost use lib.ListN.{length};
-ghost use Rattle.arcs.specs.Cancel.{swapNext, swapPrev, dropNext, dropPrev, pairNext, pairPrev, clearTwo, Closed};
+ghost use Rattle.arcs.specs.Cancel.{swapNext, swapPrev, dropNext, dropPrev, pairNext, pairPrev, clearTwo, Closed, pool, PairAsks, FreeAsks, Freed, PairCancelled};
 
 // Clears the numbers at two places.
 fn clear_two(s: &mut [u32], x: usize, y: usize)
@@ -49,4 +51,51 @@ fn merge_arcs(prev: &mut [u32], next: &mut [u32], x: usize, y: usize)
     swap_next(prev, next, x, y);
     unlink(prev, next, x);
     unlink(prev, next, y);
+}
+
+// The slots `x` and `y` are free again, and the rows that they held have no slot.
+fn free_pair(
+    slot_row: &mut [u32],
+    slot_cell: &mut [u32],
+    prev: &mut [u32],
+    next: &mut [u32],
+    row_slot: &mut [u32],
+    x: usize,
+    y: usize,
+    row: usize,
+    back: usize,
+)
+    requires { ⌜ FreeAsks (pool [] [] (now «slot_row») (now «slot_cell») (now prev) (now next) (now «row_slot»)) x y row back ⌝ }
+    ensures { λ _. ⌜ Freed (pool [] [] (now («slot_row» .entry)) (now («slot_cell» .entry)) (now (prev .entry)) (now (next .entry)) (now («row_slot» .entry))) x y row back (pool [] [] (now («slot_row» .exit)) (now («slot_cell» .exit)) (now (prev .exit)) (now (next .exit)) (now («row_slot» .exit))) ⌝ }
+{
+    clear_two(slot_row, x, y);
+    clear_two(slot_cell, x, y);
+    clear_two(prev, x, y);
+    clear_two(next, x, y);
+    clear_two(row_slot, row, back);
+}
+
+// The edges of `row` and of `back`, each other's reverse and both in the pool, cancel.
+fn cancel_pair(
+    parent: &mut [u32],
+    rank: &mut [u32],
+    slot_row: &mut [u32],
+    slot_cell: &mut [u32],
+    prev: &mut [u32],
+    next: &mut [u32],
+    row_slot: &mut [u32],
+    held: usize,
+    row: usize,
+    back: usize,
+)
+    requires { ⌜ PairAsks (pool (now parent) (now rank) (now «slot_row») (now «slot_cell») (now prev) (now next) (now «row_slot»)) held row back ⌝ }
+    ensures { λ _. ⌜ PairCancelled (pool (now (parent .entry)) (now (rank .entry)) (now («slot_row» .entry)) (now («slot_cell» .entry)) (now (prev .entry)) (now (next .entry)) (now («row_slot» .entry))) held row back (pool (now (parent .exit)) (now (rank .exit)) (now («slot_row» .exit)) (now («slot_cell» .exit)) (now (prev .exit)) (now (next .exit)) (now («row_slot» .exit))) ⌝ }
+{
+    let x = get32(row_slot, row) - 1;
+    let y = get32(row_slot, back) - 1;
+    let cell_x = get32(slot_cell, x);
+    let cell_y = get32(slot_cell, y);
+    union(parent, rank, held, cell_x, cell_y);
+    merge_arcs(prev, next, x, y);
+    free_pair(slot_row, slot_cell, prev, next, row_slot, x, y, row, back);
 }

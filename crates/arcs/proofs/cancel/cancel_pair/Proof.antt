@@ -1,0 +1,83 @@
+-- `arcs::cancel::cancel_pair` meets its contract: union, merging and freeing in a row (Pairs).
+-- Assumes nothing.
+use borrow.Author.Needs.{needs}
+use Rattle.arcs.specs.Cancel.{pool}
+use Rattle.arcs.proofs.Pairs.{union-asks, merge-asks, free-asks, pair-done}
+use Rattle.arcs.proofs.cancel.cancel_pair.Statement.{statement}
+use Rattle.arcs.proofs.cancel.cancel_pair.Tie as tie
+
+get32-requires : tie.Need-get32-requires
+get32-requires c κs = search needs
+
+sub-x : tie.Need-sub-x
+sub-x c = search needs
+
+get32-requires-2 : tie.Need-get32-requires-2
+get32-requires-2 c κs = search needs
+
+sub-y : tie.Need-sub-y
+sub-y c = search needs
+
+get32-requires-3 : tie.Need-get32-requires-3
+get32-requires-3 c κs = search needs
+
+get32-requires-4 : tie.Need-get32-requires-4
+get32-requires-4 c κs = search needs
+
+union-requires : tie.Need-union-requires
+union-requires c κs = union-asks (c .before .before .before .before .before .before .before .before .before .before .before .before .before .before .before .before .before .pre) (c .before .before .before .before .before .before .before .before .get32 .result) (c .before .before .before .before .before .before .get322 .result) (c .before .before .before .before .before .before .before .before .get32 .ensures .0) (c .before .before .before .before .before .before .get322 .ensures .0) (c .before .before .before .before .get323 .result) (c .before .before .get324 .result) (c .before .before .before .before .get323 .ensures .0) (c .before .before .get324 .ensures .0)
+
+merge-arcs-requires : tie.Need-merge-arcs-requires
+merge-arcs-requires c κs = merge-asks (c .before .before .before .before .before .before .before .before .before .before .before .before .before .before .before .before .before .before .before .before .before .before .before .before .pre) (c .before .before .before .before .before .before .before .before .before .before .before .before .before .before .before .get32 .result) (c .before .before .before .before .before .before .before .before .before .before .before .before .before .get322 .result) (c .before .before .before .before .before .before .before .before .before .before .before .before .before .before .before .get32 .ensures .0) (c .before .before .before .before .before .before .before .before .before .before .before .before .before .get322 .ensures .0)
+
+free-pair-requires : tie.Need-free-pair-requires
+free-pair-requires c κs = free-asks (c .before .before .before .before .before .before .before .before .before .before .before .before .before .before .before .before .before .before .before .before .before .before .before .before .before .before .before .before .before .before .before .before .before .before .pre) (c .before .before .before .before .before .before .before .before .before .before .before .before .before .before .before .before .before .before .before .before .before .before .before .before .before .get32 .result) (c .before .before .before .before .before .before .before .before .before .before .before .before .before .before .before .before .before .before .before .before .before .before .before .get322 .result) (c .before .before .before .before .before .before .before .before .before .before .before .before .before .before .before .before .before .before .before .before .before .before .before .before .before .get32 .ensures .0) (c .before .before .before .before .before .before .before .before .before .before .before .before .before .before .before .before .before .before .before .before .before .before .before .get322 .ensures .0) (c .before .before .before .before .before .before .before .before .before .merge-arcs .last .0) (c .before .before .before .before .before .before .before .before .before .merge-arcs .last .1 .0) (c .before .before .before .before .before .before .before .before .before .merge-arcs .kept .0) (c .before .before .before .before .before .before .before .before .before .merge-arcs .kept .1 .0)
+
+same-length : tie.Need-same-length
+same-length c = search needs
+
+same-length-2 : tie.Need-same-length-2
+same-length-2 c = search needs
+
+same-length-3 : tie.Need-same-length-3
+same-length-3 c = search needs
+
+same-length-4 : tie.Need-same-length-4
+same-length-4 c = search needs
+
+same-length-5 : tie.Need-same-length-5
+same-length-5 c = search needs
+
+same-length-6 : tie.Need-same-length-6
+same-length-6 c = search needs
+
+same-length-7 : tie.Need-same-length-7
+same-length-7 c = search needs
+
+returns : tie.Need-returns
+returns c =
+    pair-done (c .before .before .before .before .before .before .before .before .before .before .before .before .before .before .before .before .before .before .before .before .before .before .before .before .before .before .before .before .before .before .before .before .before .before .before .before .before .before .before .before .before .before .before .before .before .pre) (c .before .before .before .before .before .before .before .before .before .before .before .before .before .before .before .before .before .before .before .before .before .before .before .before .before .before .before .before .before .before .before .before .before .before .before .before .get32 .result) (c .before .before .before .before .before .before .before .before .before .before .before .before .before .before .before .before .before .before .before .before .before .before .before .before .before .before .before .before .before .before .before .before .before .before .get322 .result) (c .before .before .before .before .before .before .before .before .before .before .before .before .before .before .before .before .before .before .before .before .before .before .before .before .before .before .before .before .before .before .before .before .before .before .before .before .get32 .ensures .0) (c .before .before .before .before .before .before .before .before .before .before .before .before .before .before .before .before .before .before .before .before .before .before .before .before .before .before .before .before .before .before .before .before .before .before .get322 .ensures .0) (c .before .before .before .before .before .before .before .before .before .before .before .before .before .before .before .before .before .before .before .before .before .before .before .before .before .before .before .before .before .before .before .before .get323 .result) (c .before .before .before .before .before .before .before .before .before .before .before .before .before .before .before .before .before .before .before .before .before .before .before .before .before .before .before .before .before .before .get324 .result) (c .before .before .before .before .before .before .before .before .before .before .before .before .before .before .before .before .before .before .before .before .before .before .before .before .before .before .before .before .before .before .before .before .get323 .ensures .0) (c .before .before .before .before .before .before .before .before .before .before .before .before .before .before .before .before .before .before .before .before .before .before .before .before .before .before .before .before .before .before .get324 .ensures .0) (c .before .before .before .before .before .before .before .before .before .before .before .before .before .before .before .before .before .before .before .before .merge-arcs .last .0) (c .before .before .before .before .before .before .before .before .before .before .before .before .before .before .before .before .before .before .before .before .merge-arcs .last .1 .0)
+    (pool (c .before .before .before .before .before .before .before .before .before .before .before .before .before .before .before .before .before .before .before .before .before .before .before .before .before .before .before .union .last .0) (c .before .before .before .before .before .before .before .before .before .before .before .before .before .before .before .before .before .before .before .before .before .before .before .before .before .before .before .union .last .1 .0) (c .before .before .before .before .before .before .before .before .before .before .free-pair .last .0) (c .before .before .before .before .before .before .before .before .before .before .free-pair .last .1 .0) (c .before .before .before .before .before .before .before .before .before .before .free-pair .last .1 .1 .0) (c .before .before .before .before .before .before .before .before .before .before .free-pair .last .1 .1 .1 .0) (c .before .before .before .before .before .before .before .before .before .before .free-pair .last .1 .1 .1 .1 .0))
+    (c .before .before .before .before .before .before .before .before .before .before .before .before .before .before .before .before .before .before .before .before .before .before .before .before .before .before .before .union .ensures) (c .before .before .before .before .before .before .before .before .before .before .before .before .before .before .before .before .before .before .before .before .merge-arcs .ensures .0) (c .before .before .before .before .before .before .before .before .before .before .before .before .before .before .before .before .before .before .before .before .merge-arcs .ensures .1) (c .before .before .before .before .before .before .before .before .before .before .free-pair .ensures)
+
+pub cancel-pair-spec : {M : Type 1} → statement M
+cancel-pair-spec =
+    tie.close
+    (tie.spec
+    get32-requires
+    sub-x
+    get32-requires-2
+    sub-y
+    get32-requires-3
+    get32-requires-4
+    union-requires
+    merge-arcs-requires
+    free-pair-requires
+    same-length
+    same-length-2
+    same-length-3
+    same-length-4
+    same-length-5
+    same-length-6
+    same-length-7
+    returns)

@@ -73,3 +73,5 @@ pub mod TakingRules
 pub mod Opened
 pub mod TakingCells
 pub mod TakingRows
+pub mod TakingGroups
+pub mod TakingShows

@@ -53,13 +53,13 @@ module _ {t : Table} {m : Memory} {x : ℕ} (S : Shown t m) (O : Offered t m x) 
   P : Placed m (outlineRows t x) (placedFor t m x)
   P = offered-placed O
 
-  stood-has : (a : ℕ) → Stood a → Has m a
+  pub stood-has : (a : ℕ) → Stood a → Has m a
   stood-has a s = true-has m a (S .shows .stands a (proper-given (S .proper) a (s .0)) .1 s)
 
-  has-stood : (a : ℕ) → Has m a → Stood a
+  pub has-stood : (a : ℕ) → Has m a → Stood a
   has-stood a h = S .shows .stands a (has-in L a h) .0 (has-true m a h)
 
-  given-joined : Joined (GivenBy t (heldCells m)) New (GivenBy t (x ∷ heldCells m)) (nextOf (outlines t (heldCells m))) (nextIn o) (nextOf (outlines t (x ∷ heldCells m)))
+  pub given-joined : Joined (GivenBy t (heldCells m)) New (GivenBy t (x ∷ heldCells m)) (nextOf (outlines t (heldCells m))) (nextIn o) (nextOf (outlines t (x ∷ heldCells m)))
   given-joined = outlines-join o (outlines t cs) (proper-apart t (x ∷ cs) (proper-first S O))
 
   -- the next row of an old row, and of one of the outline

@@ -75,3 +75,4 @@ pub mod TakingCells
 pub mod TakingRows
 pub mod TakingGroups
 pub mod TakingShows
+pub mod Run

@@ -1,5 +1,5 @@
 -- ONE MORE CELL, BY CELLS: what a run of calls keeps, and the list of cells with an accepted one.
---     Shown t m        the state is sound, its held cells are proper, and it shows them: what a run of calls keeps
+--     Shown t m cs     the state is sound, the cells are proper, and the state shows them: what a run of calls keeps
 --     last-first       the same cells, the last one first
 --     proper-more      with an accepted cell the held cells are proper; `proper-first`: also with that one first
 -- Assumes nothing.
@@ -20,10 +20,10 @@ use Rattle.scope.proofs.Owning.{outlines-apart}
 use Rattle.scope.proofs.Placed.{Placeable}
 use Rattle.scope.proofs.Sound.{Sound, held-count, Offered, offered-cells, more-count, more-new, offered-outline}
 
-pub record Shown (t : Table) (m : Memory) : Type 0 where
+pub record Shown (t : Table) (m : Memory) (cs : List ℕ) : Type 0 where
   pub sound : Sound t m
-  pub proper : Proper t (heldCells m)
-  pub shows : Shows t m (heldCells m)
+  pub proper : Proper t cs
+  pub shows : Shows t m cs
 
 -- different at each place
 pub fresh-from : (l : List ℕ) → ((i j : ℕ) → i < length l → j < length l → at l i ≡ at l j → i ≡ j) → Fresh l
@@ -45,7 +45,7 @@ last-first cs x = (λ y i. there (List·Memᴰ·append-cases cs i), λ y i. back
     back (inl e) = Memᴰ·append-right cs (List·Memᴰ·head e)
     back (inr i) = Memᴰ·append-left (x ∷ []) i
 
-module _ {t : Table} {m : Memory} {x : ℕ} (S : Shown t m) (O : Offered t m x) where
+module _ {t : Table} {m : Memory} {x : ℕ} (S : Shown t m (heldCells m)) (O : Offered t m x) where
   abbrev cs : List ℕ
   cs = heldCells m
 

@@ -35,7 +35,7 @@ use Rattle.scope.proofs.Taking.{placedFor, onePlaceMore, pairsMet, take
 use Rattle.scope.proofs.TakingCells.{Shown, proper-more}
 use Rattle.scope.proofs.TakingRows.{stood-has, given-joined, placed-gives}
 
-module _ {t : Table} {m : Memory} {x : ℕ} (S : Shown t m) (O : Offered t m x) where
+module _ {t : Table} {m : Memory} {x : ℕ} (S : Shown t m (heldCells m)) (O : Offered t m x) where
   abbrev p : Memory
   p = placedFor t m x
 

@@ -29,7 +29,7 @@ use Rattle.scope.proofs.Sound.{Sound, sound-linked, held-count, Offered
 use Rattle.scope.proofs.Taking.{placedFor, taken-cancelled, offered-placed, offered-many, offered-linked}
 use Rattle.scope.proofs.TakingCells.{Shown, last-first, proper-more, proper-first}
 
-module _ {t : Table} {m : Memory} {x : ℕ} (S : Shown t m) (O : Offered t m x) where
+module _ {t : Table} {m : Memory} {x : ℕ} (S : Shown t m (heldCells m)) (O : Offered t m x) where
   abbrev cs : List ℕ
   cs = heldCells m
 

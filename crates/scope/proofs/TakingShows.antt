@@ -22,7 +22,7 @@ use Rattle.scope.proofs.TakingCells.{Shown, proper-more}
 use Rattle.scope.proofs.TakingRows.{taken-stands, stands-taken, taken-links, taken-gives}
 use Rattle.scope.proofs.TakingGroups.{taken-groups}
 
-module _ {t : Table} {m : Memory} {x : ℕ} (S : Shown t m) (O : Offered t m x) where
+module _ {t : Table} {m : Memory} {x : ℕ} (S : Shown t m (heldCells m)) (O : Offered t m x) where
   taken-shows : Shows t (taking t m x) (heldCells m ++ (x ∷ []))
   taken-shows =
       let m′ = taking t m x in
@@ -34,19 +34,15 @@ module _ {t : Table} {m : Memory} {x : ℕ} (S : Shown t m) (O : Offered t m x) 
         groups = λ i j h k. let c = more-count O in let d = taken-held O in taken-groups S O i j (omega arith) (omega arith);
       }
 
-  pub taken-shown : Shown t (taking t m x)
-  taken-shown = record {
-    sound = taken-sound O;
-    proper = subst (Proper t) (sym (taken-cells O)) (proper-more S O);
-    shows = subst (Shows t (taking t m x)) (sym (taken-cells O)) taken-shows;
-  }
+pub taken-shown : {t : Table} {m : Memory} {x : ℕ} {cs : List ℕ} → Shown t m cs → Offered t m x → Shown t (taking t m x) (cs ++ (x ∷ []))
+taken-shown {t} {m} {x} {cs} K O =
+    let held-is = K .shows .cells in
+    let S : Shown t m (heldCells m) = subst (Shown t m) (sym held-is) K in
+    subst (λ (l : List ℕ). Shown t (taking t m x) (l ++ (x ∷ []))) held-is (record { sound = taken-sound O; proper = proper-more S O; shows = taken-shows S O })
 
 pub taking-shows : (t : Table) (m : Memory) (x : ℕ) (cs : List ℕ) → offerVerdict t m x ≡ Accepted → Proper t cs → Shows t m cs
     → Proper t (cs ++ (x ∷ [])) × Shows t (taking t m x) (cs ++ (x ∷ []))
 taking-shows t m x cs e P shows =
     let O = offered t m x e in
-    let held-is = shows .cells in
-    let S : Shown t m = record { sound = O .sound; proper = subst (Proper t) (sym held-is) P; shows = subst (Shows t m) (sym held-is) shows } in (
-      subst (λ (l : List ℕ). Proper t (l ++ (x ∷ []))) held-is (proper-more S O),
-      subst (λ (l : List ℕ). Shows t (taking t m x) (l ++ (x ∷ []))) held-is (taken-shows S O),
-    )
+    let K = taken-shown (record { sound = O .sound; proper = P; shows = shows }) O in
+    (K .proper, K .shows)

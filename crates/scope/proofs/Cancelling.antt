@@ -6,25 +6,25 @@
 --     cancelled-successor      its next rows are the successors over the rows held before
 -- Assumes nothing.
 use mathlib.Core.Path.{_≡_, refl, sym, _∙_, ap, subst}
-use mathlib.Core.Logic.{_≢_, ⊎-elim}
-use mathlib.Core.Bool.{Bool, true, false, _&&_, not, cond}
+use mathlib.Core.Logic.{⊎-elim}
+use mathlib.Core.Bool.{true, false, not}
 use mathlib.Core.List.{List}
-use Prim.Native.Nat.{ℕ, zero, suc, _+_, _-_, _≤_, _<_}
+use Prim.Native.Nat.{ℕ, zero, suc, _-_, _≤_, _<_}
 use native.Mathlib.Omega.{arith}
 use borrow.Author.Tests.{not-true}
 use lib.ListN.{length, List·getD-eq-default}
 use Rattle.scope.specs.Lists.{at, tabulate, tabulateFrom}
 use Rattle.scope.specs.Table.{Table, rowCount, reverseOf}
 use Rattle.scope.specs.Standing.{Lands, Stands, Successor}
-use Rattle.scope.specs.Memory.{Memory, slots, isUsed, rowIn, hasSlot, slotOf}
+use Rattle.scope.specs.Memory.{Memory, slots, rowIn, slotOf}
 use Rattle.scope.specs.Order.{nextRow}
-use Rattle.scope.specs.Pool.{reverseHeld, reverseSlot, cancels, stays, relinked, ifStays, rowIfStays, cancelled}
+use Rattle.scope.specs.Pool.{reverseSlot, cancels, stays, relinked, ifStays, rowIfStays, cancelled}
 use Rattle.scope.proofs.Tests.{either, clash, le-or-lt}
 use Rattle.scope.proofs.WalkStarts.{tabulate-at}
 use Rattle.scope.proofs.Lands.{lands-to, lands-map}
 use Rattle.scope.proofs.Successor.{Reverses}
-use Rattle.scope.proofs.Returns.{Over, returned, turned, returns, returned-in, returned-stays, returned-back}
-use Rattle.scope.proofs.Linked.{at-in, Used, Has, used-true, has-true, true-has, has-false, has-dec, Linked, has-in, slot-used, row-has, row-slot, slot-row, cancels-used, cancels-has, cancels-from, stays-used, stays-none, stays-from, stays-not, stays-rest, mate-cancels, linked-paired}
+use Rattle.scope.proofs.Returns.{Over, turned, returns, returned-in, returned-stays, returned-back}
+use Rattle.scope.proofs.Linked.{at-in, Used, Has, has-true, has-false, Linked, has-in, slot-used, row-has, row-slot, slot-row, cancels-used, cancels-has, cancels-from, stays-used, stays-none, stays-from, stays-not, stays-rest, mate-cancels, linked-paired}
 
 -- ---- a list made place by place
 

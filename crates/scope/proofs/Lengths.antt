@@ -2,14 +2,13 @@
 --     Lengths t m                     the slices of a table and a memory agree in length, the capacities are in their ranges
 --     lengths-good, lengths-kept      `lengthsFit` tests exactly these
 -- Assumes nothing.
-use Prim.Native.Nat.{ℕ, _≤_}
+use Prim.Native.Nat.{_≤_}
 use mathlib.Core.Path.{_≡_}
 use mathlib.Core.Bool.{Bool, true, _&&_}
-use lib.Dec.{eqb, leb}
 use lib.ListN.{length}
 use borrow.Author.Tests.{eq-eqb, le-leb, eqb-true, leb-true}
 use Rattle.scope.specs.Table.{Table, rowCount}
-use Rattle.scope.specs.Memory.{Memory, places, slots, tableAgrees, placesAgree, slotsAgree, rowsAgree, capacitiesFit, lengthsFit}
+use Rattle.scope.specs.Memory.{Memory, places, slots, lengthsFit}
 use Rattle.scope.proofs.Tests.{and-left, and-right, and-both}
 
 pub record Lengths (t : Table) (m : Memory) : Type 0 where

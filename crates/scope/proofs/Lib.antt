@@ -72,7 +72,6 @@ pub mod Taking
 pub mod TakingRules
 pub mod Opened
 pub mod TakingCells
-pub mod TakingRows
-pub mod TakingGroups
+pub mod TakingStates
 pub mod TakingShows
 pub mod Run

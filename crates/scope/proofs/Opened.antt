@@ -3,22 +3,22 @@
 --     opened-rules                     the same as tests
 --     opened-shows                     it shows the empty list of cells
 -- Assumes nothing.
-use mathlib.Core.Path.{_≡_, refl, sym, _∙_, ap}
+use mathlib.Core.Path.{_≡_, refl, sym, _∙_}
 use mathlib.Core.Logic.{⊎-elim}
 use mathlib.Core.Bool.{Bool, true, false, cond}
-use mathlib.Core.List.{List, [], _∷_}
-use Prim.Native.Nat.{ℕ, _+_, _≤_, _<_}
+use mathlib.Core.List.{List, []}
+use Prim.Native.Nat.{ℕ, _≤_, _<_}
 use native.Mathlib.Omega.{arith}
 use lib.Dec.{eqb}
-use lib.ListN.{length, replicate, length-replicate, getD-replicate, List·getD-eq-default}
+use lib.ListN.{length, length-replicate, getD-replicate, List·getD-eq-default}
 use Rattle.scope.specs.declared.Verdict.the-variants.{Accepted}
 use Rattle.scope.specs.Lists.{at, total, zeros}
-use Rattle.scope.specs.Table.{Table, rowCount, targetOf, tableVerdict}
+use Rattle.scope.specs.Table.{Table, targetOf, tableVerdict}
 use Rattle.scope.specs.CellLists.{listVerdict}
-use Rattle.scope.specs.Memory.{Memory, opened, kept, keptMode, held, hasSlot, lengthsFit}
+use Rattle.scope.specs.Memory.{Memory, opened, kept, hasSlot, lengthsFit}
 use Rattle.scope.specs.Rules.{rulesKept}
 use Rattle.scope.specs.Demands.{Shows}
-use Rattle.scope.proofs.Tests.{clash, le-or-lt}
+use Rattle.scope.proofs.Tests.{le-or-lt}
 use Rattle.scope.proofs.CellLists.{list-accepted}
 use Rattle.scope.proofs.Rules.{RulesGood, not-zero}
 use Rattle.scope.proofs.RulesKept.{rules-kept}

@@ -9,14 +9,14 @@
 use mathlib.Core.Path.{_≡_, refl, sym, _∙_, ap, subst}
 use mathlib.Core.Logic.{_⊎_, inl, inr, ⊎-elim}
 use mathlib.Core.Bool.{Bool, true, false, _&&_, _||_, not}
-use mathlib.Core.List.{List, map, List·Memᴰ, Memᴰ·of-map}
-use Prim.Native.Nat.{ℕ, _+_, _*_, _/_, _^_, _≤_, _<_}
+use mathlib.Core.List.{List, List·Memᴰ, Memᴰ·of-map}
+use Prim.Native.Nat.{ℕ, _/_, _^_, _≤_, _<_}
 use native.Mathlib.Nat.{eq-or-lt-of-le}
 use native.Mathlib.Omega.{arith}
-use lib.Dec.{eqb, leb, ltb}
+use lib.Dec.{eqb, ltb}
 use lib.ListN.{length}
-use borrow.Author.Tests.{eq-eqb, lt-ltb, le-ltb, eqb-true, eqb-false, ltb-true, not-true}
-use Rattle.scope.specs.Lists.{at, all, firstBad}
+use borrow.Author.Tests.{eq-eqb, lt-ltb, le-ltb, eqb-true, ltb-true}
+use Rattle.scope.specs.Lists.{at, all}
 use Rattle.scope.specs.Cells.{resolutionOf, baseCell, digit, validCell, ownerOf, under}
 use Rattle.scope.specs.Walk.{spell, outline}
 use Rattle.scope.specs.Table.{Table, rowCount, targetOf, isOther, rowOf, outlineRows}

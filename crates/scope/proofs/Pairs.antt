@@ -2,39 +2,25 @@
 --     met-in, met-first     what `metFirst` lists: slots that cancel, and each whose reverse is in a slot that is not the outline's
 --     PairsHeld             the two cells of each pair are held
 --     united-forest         the parents and ranks keep their rules; `united-length`: and their lengths
---     united-kept, -joined, -only     places with one root keep one; so have the two cells of each pair; no others
+--     united-labels         the roots tell what chains join with these pairs too
 -- Assumes nothing.
-use mathlib.Core.Path.{_≡_, refl, sym, _∙_, ap, subst}
+use mathlib.Core.Path.{_≡_, refl, _∙_, ap}
 use mathlib.Core.Logic.{_⊎_, inl, inr, ⊎-elim}
 use mathlib.Core.Bool.{Bool, true, false, _&&_, not, cond}
 use mathlib.Core.List.{List, [], _∷_, List·Memᴰ, List·Memᴰ·head, List·Memᴰ·tail, List·Memᴰ·not-nil, List·Memᴰ·cases-cons}
 use Prim.Native.Nat.{ℕ, _<_}
-use lib.Dec.{eqb, ltb}
-use lib.ListN.{length, set, length-set}
+use lib.ListN.{length}
 use Rattle.scope.specs.Lists.{at, member}
-use Rattle.scope.specs.Standing.{Chain, alone, pair, back, joined}
 use Rattle.scope.specs.Table.{Table}
 use Rattle.scope.specs.Memory.{Memory}
 use Rattle.scope.specs.Pool.{reverseSlot, cancels, metFirst, unitePairs}
-use Rattle.scope.specs.UnionFind.{finding, rootOf, United, hang, uniteRoots, uniting}
+use Rattle.scope.specs.UnionFind.{rootOf, United}
 use Rattle.scope.proofs.Tests.{either, and-left}
 use Rattle.scope.proofs.Members.{member-false}
-use Rattle.scope.proofs.Halving.{Forest, halve-length}
+use Rattle.scope.proofs.Labels.{Labelled, labelled-same, With}
+use Rattle.scope.proofs.Halving.{Forest}
 use Rattle.scope.proofs.Unions.{uniting-keeps}
-use Rattle.scope.proofs.Joining.{Joins, uniting-joins}
-
-uniting-length : (ps rs : List ℕ) (a b : ℕ) → length (uniting ps rs a b .parents) ≡ length ps
-unfolding uniting finding
-uniting-length ps rs a b =
-    let fa = finding ps a in
-    let fb = finding (fa .parents) b in
-    go (eqb (fa .root) (fb .root)) (ltb (at rs (fa .root)) (at rs (fb .root))) (fb .parents) (fa .root) (fb .root)
-    ∙ halve-length (length (fa .parents)) (fa .parents) b ∙ halve-length (length ps) ps a
-  where
-    go : (c d : Bool) (qs : List ℕ) (x y : ℕ) → length (cond c (record { parents = qs; ranks = rs }) (cond d (hang qs rs x y) (hang qs rs y x)) .parents) ≡ length qs
-    go true d qs x y = refl
-    go false true qs x y = length-set qs x y
-    go false false qs x y = length-set qs y x
+use Rattle.scope.proofs.Joining.{uniting-labels, uniting-length}
 
 module _ (t : Table) (m : Memory) where
   -- ---- the pairs that are met
@@ -93,56 +79,40 @@ module _ (t : Table) (m : Memory) where
       let q = h s (List·Memᴰ·head refl) in
       united-forest n ss _ (uniting-keeps (u .parents) (u .ranks) n w _ _ (q .0) (q .1)) (rest h)
 
-  pub united-kept : (n : ℕ) (ss : List ℕ) (u : United) → Forest (u .parents) (u .ranks) n → PairsHeld n ss → (i j : ℕ) → i < n → j < n
-      → rootOf (u .parents) i ≡ rootOf (u .parents) j → rootOf (unitePairs t m ss u .parents) i ≡ rootOf (unitePairs t m ss u .parents) j
-  unfolding unitePairs
-  united-kept n [] u w h i j a b e = e
-  united-kept n (s ∷ ss) u w h i j a b e =
-      let q = h s (List·Memᴰ·head refl) in
-      united-kept n ss _ (uniting-keeps (u .parents) (u .ranks) n w _ _ (q .0) (q .1)) (rest h) i j a b
-      (uniting-joins (u .parents) (u .ranks) n w _ _ (q .0) (q .1) .kept i j a b e)
+  -- the roots take in each pair
+  abbrev pub PairOf : List ℕ → ℕ → ℕ → Type 0
+  PairOf ss i j = (s : ℕ) × List·Memᴰ s ss × (i ≡ at (m .slotCell) s) × (j ≡ at (m .slotCell) (reverseSlot t m s))
 
-  pub united-joined : (n : ℕ) (ss : List ℕ) (u : United) → Forest (u .parents) (u .ranks) n → PairsHeld n ss → (s : ℕ) → List·Memᴰ s ss
-      → rootOf (unitePairs t m ss u .parents) (at (m .slotCell) s) ≡ rootOf (unitePairs t m ss u .parents) (at (m .slotCell) (reverseSlot t m s))
+  pub united-labels : {E : ℕ → ℕ → Type 0} (n : ℕ) (ss : List ℕ) (u : United) → Forest (u .parents) (u .ranks) n → PairsHeld n ss → Labelled n E (rootOf (u .parents))
+      → Labelled n (λ i j. E i j ⊎ PairOf ss i j) (rootOf (unitePairs t m ss u .parents))
   unfolding unitePairs
-  united-joined n [] u w h s i = absurd (List·Memᴰ·not-nil i)
-  united-joined n (k ∷ ss) u w h s i =
-      let q = h k (List·Memᴰ·head refl) in
-      let w′ = uniting-keeps (u .parents) (u .ranks) n w _ _ (q .0) (q .1) in
-      let first = united-kept n ss _ w′ (rest h) _ _ (q .0) (q .1) (uniting-joins (u .parents) (u .ranks) n w _ _ (q .0) (q .1) .joined) in
-      ⊎-elim
-      (λ (e : s ≡ k). rw e first)
-      (λ (j : List·Memᴰ s ss). united-joined n ss _ w′ (rest h) s j)
-      (List·Memᴰ·cases-cons i)
-
-  -- no more than what pairs and roots before join
-  pub united-only : {E : ℕ → ℕ → Type 0} (n : ℕ) (ss : List ℕ) (u : United) → Forest (u .parents) (u .ranks) n → PairsHeld n ss
-      → ((i j : ℕ) → i < n → j < n → rootOf (u .parents) i ≡ rootOf (u .parents) j → Chain E i j)
-      → ((s : ℕ) → List·Memᴰ s ss → Chain E (at (m .slotCell) s) (at (m .slotCell) (reverseSlot t m s)))
-      → (i j : ℕ) → i < n → j < n → rootOf (unitePairs t m ss u .parents) i ≡ rootOf (unitePairs t m ss u .parents) j → Chain E i j
-  unfolding unitePairs
-  united-only n [] u w h old new i j a b e = old i j a b e
-  united-only {E} n (s ∷ ss) u w h old new i j a b e =
-      let q = h s (List·Memᴰ·head refl) in
-      let J = uniting-joins (u .parents) (u .ranks) n w _ _ (q .0) (q .1) in
-      united-only n ss _ (uniting-keeps (u .parents) (u .ranks) n w _ _ (q .0) (q .1)) (rest h)
-      (λ k l c d g. step k l c d (q .0) (q .1) (J .only k l c d g)) (λ k g. new k (List·Memᴰ·tail g)) i j a b e
+  united-labels n [] u w h l = labelled-same (λ i j e. inl e) (λ i j e. only e) l
     where
-      ps : List ℕ
-      ps = u .parents
+      only : {A : Type 0} {i j : ℕ} → A ⊎ PairOf [] i j → A
+      only (inl e) = e
+      only (inr (s, k, x, y)) = absurd (List·Memᴰ·not-nil k)
+  united-labels {E} n (s ∷ ss) u w h l =
+      let q = h s (List·Memᴰ·head refl) in
+      labelled-same (λ i j e. to i j e) (λ i j e. from i j e)
+      (united-labels n ss _ (uniting-keeps (u .parents) (u .ranks) n w _ _ (q .0) (q .1)) (rest h) (uniting-labels (u .parents) (u .ranks) n w l _ _ (q .0) (q .1)))
+    where
+      c : ℕ
+      c = at (m .slotCell) s
 
-      x : ℕ
-      x = at (m .slotCell) s
+      d : ℕ
+      d = at (m .slotCell) (reverseSlot t m s)
 
-      y : ℕ
-      y = at (m .slotCell) (reverseSlot t m s)
+      to : (i j : ℕ) → With E c d i j ⊎ PairOf ss i j → E i j ⊎ PairOf (s ∷ ss) i j
+      to i j (inl (inl e)) = inl e
+      to i j (inl (inr (x, y))) = inr (s, List·Memᴰ·head refl, x, y)
+      to i j (inr (k, a, x, y)) = inr (k, List·Memᴰ·tail a, x, y)
 
-      step : (k l : ℕ) → k < n → l < n → x < n → y < n
-          → (rootOf ps k ≡ rootOf ps l) ⊎ ((rootOf ps k ≡ rootOf ps x) × (rootOf ps l ≡ rootOf ps y)) ⊎ ((rootOf ps k ≡ rootOf ps y) × (rootOf ps l ≡ rootOf ps x))
-          → Chain E k l
-      step k l c d p q (inl g) = old k l c d g
-      step k l c d p q (inr (inl g)) = joined (old k x c p (g .0)) (joined (new s (List·Memᴰ·head refl)) (back (old l y d q (g .1))))
-      step k l c d p q (inr (inr g)) = joined (old k y c q (g .0)) (joined (back (new s (List·Memᴰ·head refl))) (back (old l x d p (g .1))))
+      from : (i j : ℕ) → E i j ⊎ PairOf (s ∷ ss) i j → With E c d i j ⊎ PairOf ss i j
+      from i j (inl e) = inl (inl e)
+      from i j (inr (k, a, x, y)) = ⊎-elim
+          (λ (e : k ≡ s). inl (inr (x ∙ ap (at (m .slotCell)) e, y ∙ ap (λ (w : ℕ). at (m .slotCell) (reverseSlot t m w)) e)))
+          (λ (b : List·Memᴰ k ss). inr (k, b, x, y))
+          (List·Memᴰ·cases-cons a)
 
   -- ---- the lengths
 

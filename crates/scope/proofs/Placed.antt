@@ -7,24 +7,24 @@
 --     placed-linked         slots and rows point at each other again, and the links are inverse
 -- Assumes nothing.
 use mathlib.Core.Path.{_≡_, refl, sym, _∙_, ap, subst}
-use mathlib.Core.Logic.{_⊎_, inl, inr, ⊎-elim}
-use mathlib.Core.Bool.{Bool, true, false, not}
-use mathlib.Core.List.{List, [], _∷_, map, List·Memᴰ, Memᴰ·cast}
+use mathlib.Core.Logic.{_⊎_, inl, inr}
+use mathlib.Core.Bool.{true, not}
+use mathlib.Core.List.{List, [], _∷_, map, List·Memᴰ}
 use Prim.Native.Nat.{ℕ, zero, suc, _+_, _-_, _≤_, _<_}
 use native.Mathlib.Omega.{arith}
-use lib.ListN.{length, take, replicate, length-map, length-replicate, getD-replicate}
+use lib.ListN.{length, replicate, length-map, length-replicate, getD-replicate}
 use lib.Seq.{length-take-le}
 use borrow.Author.Tests.{not-true}
-use Rattle.scope.specs.Lists.{at, below, rotate, putAll}
+use Rattle.scope.specs.Lists.{at, rotate, putAll}
 use Rattle.scope.specs.Table.{Table, rowCount}
-use Rattle.scope.specs.Memory.{Memory, held, slots, isUsed, rowIn, hasSlot, slotOf}
+use Rattle.scope.specs.Memory.{Memory, held, slots, isUsed, rowIn, slotOf}
 use Rattle.scope.specs.Pool.{freeSlots, slotsFor, placed}
 use Rattle.scope.proofs.Tests.{clash}
-use Rattle.scope.proofs.Members.{Fresh, mem-dec, mem-at, place, fresh-at, mem-below, below-fresh}
+use Rattle.scope.proofs.Members.{Fresh, mem-dec, mem-at, place, mem-below, below-fresh}
 use Rattle.scope.proofs.Outlines.{onward, onward-lt, onward-onto}
 use Rattle.scope.proofs.Puts.{putAll-length, putAll-at, putAll-other, rotate-length, rotate-at, rotate-fresh, mem-rotate, mem-take, take-fresh}
 use Rattle.scope.proofs.Lengths.{Lengths}
-use Rattle.scope.proofs.Linked.{Used, Has, used-true, at-in, Linked, slot-used, row-has}
+use Rattle.scope.proofs.Linked.{Used, Has, used-true, Linked, slot-used, row-has}
 
 pub record Placeable (t : Table) (m : Memory) (o : List ℕ) : Type 0 where
   pub once : Fresh o

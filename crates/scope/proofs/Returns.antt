@@ -6,16 +6,15 @@
 --     returned-in     and in U; `returned-stays`
 --     returned-back   the links backward lead back: what is left has inverse links again
 -- Assumes nothing.
-use mathlib.Core.Path.{_≡_, refl, sym, _∙_, ap, subst}
-use mathlib.Core.Logic.{⊎-elim}
+use mathlib.Core.Path.{_≡_, refl, sym, _∙_, ap}
 use mathlib.Core.Bool.{Bool, true, false, not}
-use Prim.Native.Nat.{ℕ, _≤_, _<_}
+use Prim.Native.Nat.{ℕ, _<_}
 use borrow.Author.Tests.{not-true}
 use Rattle.scope.specs.Lists.{follow}
 use Rattle.scope.specs.Standing.{Lands, here, on}
-use Rattle.scope.proofs.Tests.{either, clash}
+use Rattle.scope.proofs.Tests.{clash}
 use Rattle.scope.proofs.Lands.{lands-stop, lands-from, lands-to, lands-unique}
-use Rattle.scope.proofs.Finite.{Steps, steps, lands-total, follow-is}
+use Rattle.scope.proofs.Finite.{Steps, lands-total, follow-is}
 
 pub record Paired (n : ℕ) (U : ℕ → Type 0) (goes : ℕ → Bool) (mate forth back : ℕ → ℕ) : Type 0 where
   pub small : (a : ℕ) → U a → a < n

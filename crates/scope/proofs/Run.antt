@@ -6,8 +6,8 @@
 --     run-shown         so does a run
 --     run-shows         the demand, from a memory whose lengths fit and a table that passes 1
 -- Assumes nothing.
-use mathlib.Core.Path.{_≡_, refl, sym, _∙_, ap, subst}
-use mathlib.Core.Bool.{Bool, true, false, _&&_, cond}
+use mathlib.Core.Path.{_≡_, refl}
+use mathlib.Core.Bool.{Bool, true, false, cond}
 use mathlib.Core.List.{List, [], _∷_, _++_, append-nil, append-assoc, List·Memᴰ·not-nil}
 use Prim.Native.Nat.{ℕ}
 use native.Mathlib.Omega.{arith}
@@ -20,17 +20,17 @@ use Rattle.scope.specs.declared.ReadOut.the-variants as readout
 use Rattle.scope.specs.Lists.{headOr}
 use Rattle.scope.specs.Answers.{require, _▷_, ifAccepted, verdictOf}
 use Rattle.scope.specs.Table.{Table, tableVerdict}
-use Rattle.scope.specs.Memory.{Memory, Output, opened, lengthsFit, modeFits, outputsAgree}
+use Rattle.scope.specs.Memory.{Memory, Output, opened, lengthsFit}
 use Rattle.scope.specs.Rules.{rulesKept}
 use Rattle.scope.specs.Order.{View, view, lowestRows, areaAt, ordered, polygonCount, readAnswer}
 use Rattle.scope.specs.Pool.{taking}
-use Rattle.scope.specs.Calls.{Outcome, openVerdict, opening, outcome, offerVerdict, offering, Reading, readFrom, reading, readVerdict, readingOut, outputFits, offeringAll, dissolveVerdict, working, dissolving}
+use Rattle.scope.specs.Calls.{Outcome, openVerdict, opening, outcome, offerVerdict, offering, readFrom, reading, readVerdict, readingOut, outputFits, offeringAll, dissolveVerdict, working, dissolving}
 use Rattle.scope.specs.Demands.{Call, opens, offers, readsOut, dissolves, leaves, accepted, History, run, Shows}
-use Rattle.scope.proofs.Verdicts.{first-accepts, second-accepts}
-use Rattle.scope.proofs.Proper.{Proper, table-reverses}
+use Rattle.scope.proofs.Verdicts.{first-accepts}
+use Rattle.scope.proofs.Proper.{table-reverses}
 use Rattle.scope.proofs.Lengths.{Lengths, lengths-good, lengths-kept}
 use Rattle.scope.proofs.RulesKept.{rules-kept}
-use Rattle.scope.proofs.Sound.{Sound, table-good, Offered, offered}
+use Rattle.scope.proofs.Sound.{table-good, offered}
 use Rattle.scope.proofs.Opened.{opened-sound, opened-shows}
 use Rattle.scope.proofs.TakingCells.{Shown}
 use Rattle.scope.proofs.TakingShows.{taken-shown}

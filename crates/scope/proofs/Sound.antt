@@ -5,28 +5,25 @@
 --     Offered t m x         the state is sound and accepts the cell; `offered`: from `offerVerdict`
 --     offered-cells, offered-outline     the held cells with it pass as a list; its outline can be placed
 -- Assumes nothing.
-use mathlib.Core.Path.{_≡_, refl, sym, _∙_, ap, subst}
-use mathlib.Core.Logic.{⊎-elim}
-use mathlib.Core.Bool.{Bool, true, false, not, _&&_}
-use mathlib.Core.List.{List, [], _∷_, _++_, List·Memᴰ}
-use Prim.Native.Nat.{ℕ, suc, _+_, _≤_, _<_}
+use mathlib.Core.Path.{_≡_, sym, _∙_, ap, subst}
+use mathlib.Core.Bool.{true, not}
+use mathlib.Core.List.{[], _∷_, _++_, List·Memᴰ}
+use Prim.Native.Nat.{ℕ, suc, _<_}
 use native.Mathlib.Omega.{arith}
-use lib.Dec.{leb, ltb}
-use lib.ListN.{length, take, length-append, List·getD-append}
+use lib.Dec.{ltb}
+use lib.ListN.{length, length-append, List·getD-append}
 use lib.Seq.{length-take-le, getD-take, getD-append-seam}
 use borrow.Author.Tests.{ltb-true, leb-true, not-true}
-use Rattle.scope.specs.declared.Verdict.{Verdict}
 use Rattle.scope.specs.declared.Verdict.the-variants.{Accepted}
-use Rattle.scope.specs.Lists.{at, passes, firstBad}
-use Rattle.scope.specs.Answers.{require, requireNone, _▷_}
+use Rattle.scope.specs.Lists.{at, passes}
+use Rattle.scope.specs.Answers.{require}
 use Rattle.scope.specs.Cells.{validCell, ownerOf}
 use Rattle.scope.specs.Table.{Table, rowCount, reverseOf, targetOf, rowCountFits, hasTarget, rowGood, tableVerdict, outlineRows}
-use Rattle.scope.specs.CellLists.{listVerdict, cellVerdict}
-use Rattle.scope.specs.Memory.{Memory, keptMode, held, heldCells, places, slots, slotOf, rowIn, lengthsFit}
+use Rattle.scope.specs.CellLists.{cellVerdict}
+use Rattle.scope.specs.Memory.{Memory, keptMode, held, heldCells, places, slotOf, rowIn, lengthsFit}
 use Rattle.scope.specs.Rules.{rulesKept}
-use Rattle.scope.specs.Pool.{allInTable, namesTwice, enoughSlots, freeSlots, outlineVerdict}
+use Rattle.scope.specs.Pool.{allInTable, namesTwice, enoughSlots, outlineVerdict}
 use Rattle.scope.specs.Calls.{stateVerdict, offerVerdict}
-use Rattle.scope.proofs.Tests.{clash}
 use Rattle.scope.proofs.Scan.{passes-at, passes-all}
 use Rattle.scope.proofs.Verdicts.{first-accepts, second-accepts, both-accept, require-holds, require-accepts, none-fails}
 use Rattle.scope.proofs.CellLists.{ListGood, list-good}

@@ -5,39 +5,37 @@
 --     taken-linked            slots and rows point at each other, links are inverse
 --     taken-forest            the parents and ranks keep their rules
 -- Assumes nothing.
-use mathlib.Core.Path.{_≡_, refl, sym, _∙_, ap, subst}
-use mathlib.Core.Logic.{_⊎_, inl, inr, ⊎-elim}
-use mathlib.Core.Bool.{Bool, true, false, not}
-use mathlib.Core.List.{List, [], _∷_, _++_, List·Memᴰ}
-use Prim.Native.Nat.{ℕ, suc, _+_, _-_, _≤_, _<_}
+use mathlib.Core.Path.{_≡_, refl, sym, _∙_, ap}
+use mathlib.Core.Bool.{true}
+use mathlib.Core.List.{List, [], _∷_, _++_}
+use Prim.Native.Nat.{ℕ, suc, _+_, _-_, _<_}
 use native.Mathlib.Omega.{arith}
 use native.Mathlib.Numerals.{add-one}
-use lib.ListN.{length, set, take, length-set}
+use lib.ListN.{length, set, length-set}
 use lib.Seq.{getD-set-same, getD-set-other, take-suc-set}
 use Rattle.scope.specs.Lists.{at}
-use Rattle.scope.specs.Table.{Table, rowCount, reverseOf, outlineRows}
-use Rattle.scope.specs.Memory.{Memory, keptMode, held, heldCells, places, slots, rowIn}
+use Rattle.scope.specs.Table.{Table, outlineRows}
+use Rattle.scope.specs.Memory.{Memory, keptMode, held, heldCells, places, rowIn}
 use Rattle.scope.specs.Rules.{ownedBy}
 use Rattle.scope.specs.UnionFind.{United}
-use Rattle.scope.specs.Pool.{slotsFor, placed, reverseSlot, cancels, metFirst, unitePairs, cancelled, taking}
+use Rattle.scope.specs.Pool.{slotsFor, placed, metFirst, unitePairs, cancelled, taking}
 use Rattle.scope.proofs.Members.{mem-at}
 use Rattle.scope.proofs.Halving.{Forest}
 use Rattle.scope.proofs.Unions.{added-keeps}
 use Rattle.scope.proofs.Owning.{test-owned, outline-owned}
-use Rattle.scope.proofs.Lengths.{Lengths}
 use Rattle.scope.proofs.Linked.{at-in, Used, Linked, cancels-used, mate-cancels}
-use Rattle.scope.proofs.Placed.{Placeable, Placed, slots-many, placed-lists, placed-linked, each-slot}
+use Rattle.scope.proofs.Placed.{Placed, slots-many, placed-lists, placed-linked, each-slot}
 use Rattle.scope.proofs.Cancelling.{Cancelled, cancelled-lists, cancelled-linked}
-use Rattle.scope.proofs.Pairs.{met-in, PairsHeld, united-forest, united-length}
-use Rattle.scope.proofs.Sound.{Sound, sound-reverses, sound-linked, Offered, offered-valid, offered-room, offered-outline}
+use Rattle.scope.proofs.Pairs.{met-in, PairsHeld, united-forest}
+use Rattle.scope.proofs.Sound.{sound-reverses, sound-linked, Offered, offered-valid, offered-room, offered-outline}
 
 -- the state with the outline placed
 abbrev pub placedFor : Table → Memory → ℕ → Memory
 placedFor t m x = placed m x (outlineRows t x)
 
--- parents and ranks with one more place, and the pairs that are united in them
-abbrev pub onePlaceMore : Memory → United
-onePlaceMore m = record { parents = set (m .parent) (held m) (held m); ranks = set (m .rank) (held m) 0 }
+-- its parents and ranks, and the pairs that are united in them
+abbrev pub onePlaceMore : Table → Memory → ℕ → United
+onePlaceMore t m x = record { parents = placedFor t m x .parent; ranks = placedFor t m x .rank }
 
 abbrev pub pairsMet : Table → Memory → ℕ → List ℕ
 pairsMet t m x = metFirst t (placedFor t m x) [] (slotsFor m (outlineRows t x))
@@ -59,12 +57,16 @@ module _ (t : Table) (m : Memory) (x : ℕ) where
   unfolding taking cancelled placed
   taken-row-mark = refl
 
-  pub taken-parent : taking t m x .parent ≡ unitePairs t (placedFor t m x) (pairsMet t m x) (onePlaceMore m) .parents
-  unfolding taking cancelled placed
+  pub placed-parents : length (placedFor t m x .parent) ≡ length (m .parent)
+  unfolding placed
+  placed-parents = length-set (m .parent) (held m) (held m)
+
+  pub taken-parent : taking t m x .parent ≡ unitePairs t (placedFor t m x) (pairsMet t m x) (onePlaceMore t m x) .parents
+  unfolding taking cancelled
   taken-parent = refl
 
-  pub taken-rank : taking t m x .rank ≡ unitePairs t (placedFor t m x) (pairsMet t m x) (onePlaceMore m) .ranks
-  unfolding taking cancelled placed
+  pub taken-rank : taking t m x .rank ≡ unitePairs t (placedFor t m x) (pairsMet t m x) (onePlaceMore t m x) .ranks
+  unfolding taking cancelled
   taken-rank = refl
 
   pub taken-cancelled : Cancelled t (placedFor t m x) (taking t m x)
@@ -140,8 +142,9 @@ module _ {t : Table} {m : Memory} {x : ℕ} (O : Offered t m x) where
         weight = g .ranks-fit;
       }
 
-  pub added-forest : Forest (onePlaceMore m .parents) (onePlaceMore m .ranks) (suc (held m))
-  added-forest = added-keeps (m .parent) (m .rank) (held m) sound-forest (rw (O .sound .lengths .parent) (offered-room O))
+  pub placed-forest : Forest (placedFor t m x .parent) (placedFor t m x .rank) (suc (held m))
+  unfolding placed
+  placed-forest = added-keeps (m .parent) (m .rank) (held m) sound-forest (rw (O .sound .lengths .parent) (offered-room O))
 
   -- the cells of a pair that cancels are held
   pub pairs-held : PairsHeld t (placedFor t m x) (suc (held m)) (pairsMet t m x)
@@ -153,4 +156,4 @@ module _ {t : Table} {m : Memory} {x : ℕ} (O : Offered t m x) where
 
   pub taken-forest : Forest (taking t m x .parent) (taking t m x .rank) (suc (held m))
   taken-forest = rw (taken-parent t m x, taken-rank t m x)
-      (united-forest t (placedFor t m x) (suc (held m)) (pairsMet t m x) (onePlaceMore m) added-forest pairs-held)
+      (united-forest t (placedFor t m x) (suc (held m)) (pairsMet t m x) (onePlaceMore t m x) placed-forest pairs-held)

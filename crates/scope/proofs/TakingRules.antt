@@ -3,32 +3,31 @@
 --     taken-sound       the state is sound again
 --     taking-rules      the same from the tests: after an accepted offer the lengths fit and the rules for 9 are kept
 -- Assumes nothing.
-use mathlib.Core.Path.{_≡_, refl, sym, _∙_, ap, subst}
+use mathlib.Core.Path.{_≡_, sym, _∙_, ap}
 use mathlib.Core.Logic.{⊎-elim}
-use mathlib.Core.Bool.{Bool, true, false}
-use mathlib.Core.List.{List, [], _∷_, _++_}
-use Prim.Native.Nat.{ℕ, suc, _+_, _-_, _≤_, _<_}
+use mathlib.Core.Bool.{true, false}
+use mathlib.Core.List.{[], _∷_, _++_}
+use Prim.Native.Nat.{ℕ, suc, _+_, _-_, _<_}
 use native.Mathlib.Omega.{arith}
-use lib.ListN.{length, set, length-set}
+use lib.ListN.{length, length-set}
 use Rattle.scope.specs.declared.Verdict.the-variants.{Accepted}
-use Rattle.scope.specs.Lists.{at, total}
-use Rattle.scope.specs.Table.{Table, rowCount, reverseOf, targetOf, outlineRows}
-use Rattle.scope.specs.CellLists.{listVerdict}
-use Rattle.scope.specs.Memory.{Memory, keptMode, held, heldCells, places, slots, rowIn, slotOf, lengthsFit}
-use Rattle.scope.specs.Rules.{ownedBy, rootCount, rulesKept}
-use Rattle.scope.specs.Pool.{placed, stays, unitePairs, taking}
+use Rattle.scope.specs.Lists.{at}
+use Rattle.scope.specs.Table.{Table, reverseOf, targetOf}
+use Rattle.scope.specs.Memory.{Memory, keptMode, held, heldCells, places, slots, rowIn, lengthsFit}
+use Rattle.scope.specs.Rules.{rulesKept}
+use Rattle.scope.specs.Pool.{stays, taking}
 use Rattle.scope.specs.Calls.{offerVerdict}
 use Rattle.scope.proofs.Tests.{either}
 use Rattle.scope.proofs.CellLists.{ListGood, list-accepted}
-use Rattle.scope.proofs.Rules.{RowHeld, SlotUsed, SlotFree, RulesGood}
+use Rattle.scope.proofs.Rules.{SlotUsed, SlotFree, RulesGood}
 use Rattle.scope.proofs.RulesKept.{rules-kept}
 use Rattle.scope.proofs.Members.{cases}
 use Rattle.scope.proofs.Lengths.{Lengths, lengths-kept}
-use Rattle.scope.proofs.Linked.{at-in, Used, Has, Linked, has-in, row-has, slot-used, stays-used}
-use Rattle.scope.proofs.Cancelling.{Cancelled, cell-left, row-left, cancelled-used, used-left, cancelled-none}
+use Rattle.scope.proofs.Linked.{at-in, Used, has-in, row-has, slot-used, stays-used}
+use Rattle.scope.proofs.Cancelling.{cell-left, row-left, cancelled-used, used-left, cancelled-none}
 use Rattle.scope.proofs.Pairs.{united-length}
 use Rattle.scope.proofs.Sound.{Sound, sound-reverses, Offered, offered, offered-cells, offered-room, more-count}
-use Rattle.scope.proofs.Taking.{placedFor, onePlaceMore, pairsMet, taken-parent, taken-cell-mark, taken-row-mark, taken-cancelled, taken-head, taken-held, taken-mode, taken-room, taken-cells, offered-placed, offered-linked, taken-linked, placed-cell, placed-owned, taken-forest}
+use Rattle.scope.proofs.Taking.{placedFor, onePlaceMore, pairsMet, placed-parents, taken-parent, taken-cell-mark, taken-row-mark, taken-cancelled, taken-head, taken-held, taken-mode, taken-room, taken-cells, offered-placed, offered-linked, taken-linked, placed-cell, placed-owned, taken-forest}
 
 module _ {t : Table} {m : Memory} {x : ℕ} (O : Offered t m x) where
   pool-same : slots (taking t m x) ≡ slots m
@@ -41,7 +40,7 @@ module _ {t : Table} {m : Memory} {x : ℕ} (O : Offered t m x) where
       let pool = offered-placed O .pool in
       let room = taken-room O in
       let parents : length (taking t m x .parent) ≡ places m =
-      rw (taken-parent t m x) (united-length t (placedFor t m x) (pairsMet t m x) (onePlaceMore m) ∙ length-set (m .parent) (held m) (held m) ∙ l .parent) in
+      rw (taken-parent t m x) (united-length t (placedFor t m x) (pairsMet t m x) (onePlaceMore t m x) ∙ placed-parents t m x ∙ l .parent) in
       record {
         reverse = l .reverse;
         area = l .area;

@@ -1,44 +1,61 @@
--- ONE MORE CELL SHOWS IT: a state that shows its held cells, and accepts a cell, shows the held cells with that one when it has taken it.
+-- ONE MORE CELL SHOWS IT: a state that shows its accepted cells, and accepts a cell, shows these cells with that one when it has taken it.
+--     shown-holds       a state that shows its cells holds them, as the laws of History ask
 --     taken-shown       what a run of calls keeps, is kept
---     taking-shows      the same for any list of accepted cells that the state shows
+--     taking-shows      the same for any list of cells that the state shows
 -- Assumes nothing.
-use mathlib.Core.Path.{_≡_, sym, _∙_, subst}
+use mathlib.Core.Path.{_≡_, sym, _∙_, ap, subst}
 use mathlib.Core.List.{List, [], _∷_, _++_}
-use Prim.Native.Nat.{ℕ, _<_}
-use native.Mathlib.Omega.{arith}
+use Prim.Native.Nat.{ℕ, suc, _<_}
 use lib.ListN.{length}
 use Rattle.scope.specs.declared.Verdict.the-variants.{Accepted}
+use Rattle.scope.specs.Lists.{at}
 use Rattle.scope.specs.Table.{Table}
-use Rattle.scope.specs.Memory.{Memory, held, heldCells}
+use Rattle.scope.specs.Memory.{Memory, held, heldCells, slotOf}
 use Rattle.scope.specs.Pool.{taking}
 use Rattle.scope.specs.Calls.{offerVerdict}
 use Rattle.scope.specs.Demands.{Shows}
 use Rattle.scope.proofs.Proper.{Proper}
-use Rattle.scope.proofs.Linked.{has-true, true-has}
-use Rattle.scope.proofs.Sound.{Sound, Offered, offered, more-count}
-use Rattle.scope.proofs.Taking.{taken-held, taken-cells}
+use Rattle.scope.proofs.States.{Holds, Beside, PairsGone}
+use Rattle.scope.proofs.StateOf.{stateOf, shows-holds, holds-shows}
+use Rattle.scope.proofs.OneMore.{holds-offer}
+use Rattle.scope.proofs.Linked.{at-in, Has, slot-used}
+use Rattle.scope.proofs.Sound.{sound-linked, held-count, Offered, offered}
+use Rattle.scope.proofs.Taking.{placedFor, taken-cells}
 use Rattle.scope.proofs.TakingRules.{taken-sound}
 use Rattle.scope.proofs.TakingCells.{Shown, proper-more}
-use Rattle.scope.proofs.TakingRows.{taken-stands, stands-taken, taken-links, taken-gives}
-use Rattle.scope.proofs.TakingGroups.{taken-groups}
+use Rattle.scope.proofs.TakingStates.{taken-beside, taken-gone}
 
-module _ {t : Table} {m : Memory} {x : ℕ} (S : Shown t m (heldCells m)) (O : Offered t m x) where
-  taken-shows : Shows t (taking t m x) (heldCells m ++ (x ∷ []))
-  taken-shows =
-      let m′ = taking t m x in
+module _ {t : Table} {m : Memory} {cs : List ℕ} (S : Shown t m cs) where
+  pub shown-count : held m ≡ length cs
+  shown-count = sym (held-count (S .sound)) ∙ ap length (S .shows .cells)
+
+  pub shown-holds : Holds t cs (stateOf m)
+  shown-holds = shows-holds t m cs (S .sound .lengths .row-slot) shown-count (S .proper) owned (S .shows)
+    where
+      owned : (a : ℕ) → Has m a → at (m .slotCell) (slotOf m a) < held m
+      owned a h = let u = slot-used (sound-linked (S .sound)) a h in S .sound .rules .slot-used (slotOf m a) (at-in (m .slotRow) (slotOf m a) u) u .cell-held
+
+-- what the laws of History ask of an accepted offer
+module _ {t : Table} {m : Memory} {cs : List ℕ} {x : ℕ} (S : Shown t m cs) (O : Offered t m x) where
+  pub shown-proper : Proper t (cs ++ (x ∷ []))
+  shown-proper = subst (λ (l : List ℕ). Proper t (l ++ (x ∷ []))) (S .shows .cells) (proper-more (subst (Proper t) (sym (S .shows .cells)) (S .proper)) O)
+
+  pub shown-beside : Beside t x (length cs) (stateOf m) (stateOf (placedFor t m x))
+  shown-beside = subst (λ (n : ℕ). Beside t x n (stateOf m) (stateOf (placedFor t m x))) (shown-count S) (taken-beside O)
+
+  pub shown-gone : PairsGone t (suc (length cs)) (stateOf (placedFor t m x)) (stateOf (taking t m x))
+  shown-gone = subst (λ (n : ℕ). PairsGone t (suc n) (stateOf (placedFor t m x)) (stateOf (taking t m x))) (shown-count S) (taken-gone O)
+
+  pub taken-shown : Shown t (taking t m x) (cs ++ (x ∷ []))
+  taken-shown =
+      let held-is : heldCells (taking t m x) ≡ cs ++ (x ∷ []) = taken-cells O ∙ ap (λ (l : List ℕ). l ++ (x ∷ [])) (S .shows .cells) in
+      let T = taken-sound O in
       record {
-        cells = taken-cells O;
-        stands = λ a h. (λ e. taken-stands S O a (true-has m′ a e), λ s. has-true m′ a (stands-taken S O a s));
-        gives = λ a h e. taken-gives S O a (true-has m′ a e);
-        links = λ a h e. taken-links S O a (true-has m′ a e);
-        groups = λ i j h k. let c = more-count O in let d = taken-held O in taken-groups S O i j (omega arith) (omega arith);
+        sound = T;
+        proper = shown-proper;
+        shows = holds-shows t (taking t m x) (cs ++ (x ∷ [])) (T .lengths .row-slot) (sym (held-count T) ∙ ap length held-is) held-is
+            (holds-offer shown-proper (shown-holds S) shown-beside shown-gone);
       }
-
-pub taken-shown : {t : Table} {m : Memory} {x : ℕ} {cs : List ℕ} → Shown t m cs → Offered t m x → Shown t (taking t m x) (cs ++ (x ∷ []))
-taken-shown {t} {m} {x} {cs} K O =
-    let held-is = K .shows .cells in
-    let S : Shown t m (heldCells m) = subst (Shown t m) (sym held-is) K in
-    subst (λ (l : List ℕ). Shown t (taking t m x) (l ++ (x ∷ []))) held-is (record { sound = taken-sound O; proper = proper-more S O; shows = taken-shows S O })
 
 pub taking-shows : (t : Table) (m : Memory) (x : ℕ) (cs : List ℕ) → offerVerdict t m x ≡ Accepted → Proper t cs → Shows t m cs
     → Proper t (cs ++ (x ∷ [])) × Shows t (taking t m x) (cs ++ (x ∷ []))

@@ -8,7 +8,7 @@
 -- Assumes nothing.
 use mathlib.Core.Path.{_≡_, refl, sym, _∙_, ap, subst}
 use mathlib.Core.Logic.{_⊎_, inl, inr, ⊎-elim}
-use mathlib.Core.Bool.{Bool, true, false, _&&_, _||_, not}
+use mathlib.Core.Bool.{Bool, true, false, _&&_, _||_}
 use mathlib.Core.List.{List, List·Memᴰ, Memᴰ·of-map}
 use Prim.Native.Nat.{ℕ, _/_, _^_, _≤_, _<_}
 use native.Mathlib.Nat.{eq-or-lt-of-le}
@@ -19,13 +19,13 @@ use borrow.Author.Tests.{eq-eqb, lt-ltb, le-ltb, eqb-true, ltb-true}
 use Rattle.scope.specs.Lists.{at, all}
 use Rattle.scope.specs.Cells.{resolutionOf, baseCell, digit, validCell, ownerOf, under}
 use Rattle.scope.specs.Walk.{spell, outline}
-use Rattle.scope.specs.Table.{Table, rowCount, targetOf, isOther, rowOf, outlineRows}
+use Rattle.scope.specs.Table.{Table, rowCount, targetOf, rowOf, outlineRows}
 use Rattle.scope.specs.Rules.{ownedBy}
 use Rattle.scope.proofs.Tests.{either, clash, le-or-lt, and-left, and-right, and-both, all-at, all-from}
-use Rattle.scope.proofs.Scan.{firstBad-lowest}
 use Rattle.scope.proofs.Cells.{cell-after}
 use Rattle.scope.proofs.ValidCells.{cell-head}
 use Rattle.scope.proofs.Spell.{spell-same, spell-own}
+use Rattle.scope.proofs.RowSearch.{row-holds}
 use Rattle.scope.proofs.WalkOwners.{outline-edges}
 use Rattle.scope.proofs.CellLists.{ListGood}
 
@@ -119,15 +119,6 @@ one-cell o x y v w n k (inr p) (inr q) =
 
 -- ---- rows of outlines
 
--- a row that is found holds the edge
-pub row-edge : (es : List ℕ) (e : ℕ) → rowOf es e < length es → at es (rowOf es e) ≡ e
-unfolding rowOf
-row-edge es e h = eqb-true (at es (rowOf es e)) e (back (eqb (at es (rowOf es e)) e) (firstBad-lowest (isOther es e) (length es) .here h))
-  where
-    back : (b : Bool) → not b ≡ false → b ≡ true
-    back true q = refl
-    back false q = sym q
-
 pub outline-owned : (t : Table) (x a : ℕ) → validCell x ≡ true → List·Memᴰ a (outlineRows t x) → a < rowCount t → Owned (ownerOf (at (t .edges) a)) x
 unfolding outlineRows
 outline-owned t x a v m h = go (Memᴰ·of-map (rowOf (t .edges)) (outline x (targetOf t)) m)
@@ -135,7 +126,7 @@ outline-owned t x a v m h = go (Memᴰ·of-map (rowOf (t .edges)) (outline x (ta
     go : (e : ℕ) × List·Memᴰ e (outline x (targetOf t)) × (rowOf (t .edges) e ≡ a) → Owned (ownerOf (at (t .edges) a)) x
     go (e, i, q) =
         let l : rowOf (t .edges) e < rowCount t = omega arith in
-        let s : e ≡ at (t .edges) a = sym (row-edge (t .edges) e l) ∙ ap (at (t .edges)) q in
+        let s : e ≡ at (t .edges) a = sym (row-holds (t .edges) e l) ∙ ap (at (t .edges)) q in
         subst (λ (w : ℕ). Owned (ownerOf w) x) s (outline-edges x (targetOf t) v (omega arith) e i .owner)
 
 pub outlines-apart : {mode target capacity : ℕ} {cs : List ℕ} → ListGood mode target capacity cs → (t : Table) (i j a : ℕ) → i < length cs → j < length cs

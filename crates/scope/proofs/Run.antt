@@ -27,10 +27,9 @@ use Rattle.scope.specs.Pool.{taking}
 use Rattle.scope.specs.Calls.{Outcome, openVerdict, opening, outcome, offerVerdict, offering, readFrom, reading, readVerdict, readingOut, outputFits, offeringAll, dissolveVerdict, working, dissolving}
 use Rattle.scope.specs.Demands.{Call, opens, offers, readsOut, dissolves, leaves, accepted, History, run, Shows}
 use Rattle.scope.proofs.Verdicts.{first-accepts}
-use Rattle.scope.proofs.Proper.{table-reverses}
 use Rattle.scope.proofs.Lengths.{Lengths, lengths-good, lengths-kept}
 use Rattle.scope.proofs.RulesKept.{rules-kept}
-use Rattle.scope.proofs.Sound.{table-good, offered}
+use Rattle.scope.proofs.Sound.{sound-reverses, offered}
 use Rattle.scope.proofs.Opened.{opened-sound, opened-shows}
 use Rattle.scope.proofs.TakingCells.{Shown}
 use Rattle.scope.proofs.TakingShows.{taken-shown}
@@ -39,7 +38,7 @@ pub opened-shown : (t : Table) (m : Memory) (mode : ℕ) → tableVerdict t ≡ 
 opened-shown t m mode e l = record {
   sound = opened-sound t m mode e l;
   proper = record {
-    reverses = table-reverses t (l .reverse) (table-good t e);
+    reverses = sound-reverses (opened-sound t m mode e l);
     distinct = tt;
     in-table = λ x a i. absurd (List·Memᴰ·not-nil i);
     once = λ x i. absurd (List·Memᴰ·not-nil i);

@@ -1,7 +1,6 @@
 -- A state that passes 10, 1 and 9, and a cell that it accepts: what each has, by name.
---     table-good            the rows of a table that passes 1
 --     Sound t m             the table passes 1, the lengths fit, the state keeps the rules; `sound-from`, `sound-state`: from the tests
---     sound-reverses, sound-linked, sound-cells      what the laws of successors, of cancelling and of outlines ask for
+--     sound-table, sound-reverses, sound-linked, sound-cells     what the laws of tables, successors, cancelling and outlines ask for
 --     Offered t m x         the state is sound and accepts the cell; `offered`: from `offerVerdict`
 --     offered-cells, offered-outline     the held cells with it pass as a list; its outline can be placed
 -- Assumes nothing.
@@ -13,38 +12,31 @@ use native.Mathlib.Omega.{arith}
 use lib.Dec.{ltb}
 use lib.ListN.{length, length-append, List·getD-append}
 use lib.Seq.{length-take-le, getD-take, getD-append-seam}
-use borrow.Author.Tests.{ltb-true, leb-true, not-true}
+use borrow.Author.Tests.{eq-eqb, ltb-true, leb-true, not-true}
 use Rattle.scope.specs.declared.Verdict.the-variants.{Accepted}
-use Rattle.scope.specs.Lists.{at, passes}
+use Rattle.scope.specs.Lists.{at}
 use Rattle.scope.specs.Answers.{require}
 use Rattle.scope.specs.Cells.{validCell, ownerOf}
-use Rattle.scope.specs.Table.{Table, rowCount, reverseOf, targetOf, rowCountFits, hasTarget, rowGood, tableVerdict, outlineRows}
+use Rattle.scope.specs.Table.{Table, rowCount, reverseOf, targetOf, tableVerdict, outlineRows}
 use Rattle.scope.specs.CellLists.{cellVerdict}
 use Rattle.scope.specs.Memory.{Memory, keptMode, held, heldCells, places, slotOf, rowIn, lengthsFit}
 use Rattle.scope.specs.Rules.{rulesKept}
 use Rattle.scope.specs.Pool.{allInTable, namesTwice, enoughSlots, outlineVerdict}
 use Rattle.scope.specs.Calls.{stateVerdict, offerVerdict}
-use Rattle.scope.proofs.Scan.{passes-at, passes-all}
-use Rattle.scope.proofs.Verdicts.{first-accepts, second-accepts, both-accept, require-holds, require-accepts, none-fails}
+use Rattle.scope.proofs.Scan.{passes-at}
+use Rattle.scope.proofs.Verdicts.{first-accepts, second-accepts, both-accept, require-holds, require-accepts}
 use Rattle.scope.proofs.CellLists.{ListGood, list-good}
 use Rattle.scope.proofs.CellOffers.{offer-is-list}
 use Rattle.scope.proofs.Rules.{RulesGood, rules-good}
 use Rattle.scope.proofs.RulesKept.{rules-kept}
 use Rattle.scope.proofs.Members.{place, fresh-test}
 use Rattle.scope.proofs.Successor.{Reverses}
-use Rattle.scope.proofs.Proper.{table-reverses}
+use Rattle.scope.proofs.Tables.{TableGood, table-good}
+use Rattle.scope.proofs.Tests.{and-both}
 use Rattle.scope.proofs.Owning.{Owned, owned-test, one-cell, outline-owned}
 use Rattle.scope.proofs.Lengths.{Lengths, lengths-good, lengths-kept}
 use Rattle.scope.proofs.Linked.{at-in, Used, Has, Linked, slot-used, row-slot}
 use Rattle.scope.proofs.Placed.{Placeable}
-
-pub table-good : (t : Table) → tableVerdict t ≡ Accepted → passes (rowGood t) (rowCount t) ≡ true
-unfolding tableVerdict
-table-good t e =
-    let n : ℕ = rowCount t in
-    let e₂ = second-accepts (require (rowCountFits n) 1 0) _ e in
-    let e₃ = second-accepts (require (passes (hasTarget (t .edges)) n) 1 0) _ e₂ in
-    passes-all (rowGood t) n (none-fails 1 (rowGood t) n e₃)
 
 pub record Sound (t : Table) (m : Memory) : Type 0 where
   pub table : tableVerdict t ≡ Accepted
@@ -66,8 +58,11 @@ state-sound {t} {m} S = both-accept _ _ (require-accepts _ 10 0 (lengths-kept t 
     (both-accept _ _ (S .table) (require-accepts _ 9 0 (rules-kept t m (S .rules))))
 
 module _ {t : Table} {m : Memory} (S : Sound t m) where
+  pub sound-table : TableGood t
+  sound-table = table-good t (and-both _ _ (eq-eqb _ _ (S .lengths .reverse)) (eq-eqb _ _ (S .lengths .area))) (S .table)
+
   pub sound-reverses : Reverses (λ a. a < rowCount t) (reverseOf t)
-  sound-reverses = table-reverses t (S .lengths .reverse) (table-good t (S .table))
+  sound-reverses = sound-table .reverses
 
   pub sound-linked : Linked t m
   sound-linked =

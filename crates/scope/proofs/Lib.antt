@@ -75,3 +75,4 @@ pub mod TakingCells
 pub mod TakingStates
 pub mod TakingShows
 pub mod Run
+pub mod Untouched

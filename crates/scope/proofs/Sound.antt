@@ -77,6 +77,12 @@ module _ {t : Table} {m : Memory} (S : Sound t m) where
         next-prev = λ s u. used s u .next-prev;
       }
 
+  -- no row and its reverse are both held
+  pub none-both : (a : ℕ) → Has m a → Has m (reverseOf t a) → ⊥
+  none-both a h k =
+      let u = slot-used sound-linked a h in
+      k (subst (λ (r : ℕ). at (m .rowSlot) (reverseOf t r) ≡ 0) (row-slot sound-linked a h) (S .rules .slot-used (slotOf m a) (at-in (m .slotRow) (slotOf m a) u) u .reverse-free))
+
   pub held-count : length (heldCells m) ≡ held m
   held-count = length-take-le (held m) (m .cells) (S .rules .count-fits)
 

@@ -26,11 +26,11 @@ use Rattle.scope.proofs.Forest.{new-roots}
 use Rattle.scope.proofs.States.{Beside, Unites, PairsGone}
 use Rattle.scope.proofs.StateOf.{stateOf}
 use Rattle.scope.proofs.Joining.{roots-are, parents-are}
-use Rattle.scope.proofs.Linked.{at-in, Has, has-dec, Linked, has-in, slot-used, row-has, row-slot, slot-row, cancels-used, cancels-has, cancels-from}
+use Rattle.scope.proofs.Linked.{Has, has-dec, Linked, has-in, slot-used, row-has, row-slot, slot-row, cancels-used, cancels-has, cancels-from}
 use Rattle.scope.proofs.Placed.{Placeable, Placed, used-old, has-kept, has-new, placed-has}
 use Rattle.scope.proofs.Cancelling.{rowAfter, Cancelled, cancelled-has, has-cancelled, has-left, slot-stays, cell-left, cancelled-successor}
 use Rattle.scope.proofs.Pairs.{met-in, met-first, PairOf, united-labels}
-use Rattle.scope.proofs.Sound.{sound-reverses, sound-linked, Offered, offered-room, offered-outline}
+use Rattle.scope.proofs.Sound.{sound-reverses, sound-linked, none-both, Offered, offered-room, offered-outline}
 use Rattle.scope.proofs.Taking.{placedFor, onePlaceMore, pairsMet, taken-parent, taken-cancelled, offered-placed, offered-many, offered-linked, sound-forest, placed-forest, pairs-held}
 
 module _ {t : Table} {m : Memory} {x : ℕ} (O : Offered t m x) where
@@ -139,12 +139,6 @@ module _ {t : Table} {m : Memory} {x : ℕ} (O : Offered t m x) where
       go (inl (i, k, e)) = inl (Memᴰ·cast (ap (slotOf p) (sym e) ∙ slot-new i k) (mem-at (slotsFor m o) i (omega (arith, many))), cell-new a (Memᴰ·cast (sym e) (mem-at o i k)))
       go (inr (g, k)) = inr (g, λ i. used-old L f many P (slotOf m a) (slot-used L a g) (Memᴰ·cast (ap (λ (w : ℕ). w - 1) (sym (P .old-slot a k))) i))
 
-  -- the rows held before have no pair
-  none-before : (a : ℕ) → Has m a → Has m (reverseOf t a) → ⊥
-  none-before a h k =
-      let u = slot-used L a h in
-      k (subst (λ (r : ℕ). at (m .rowSlot) (reverseOf t r) ≡ 0) (row-slot L a h) (O .sound .rules .slot-used (slotOf m a) (at-in (m .slotRow) (slotOf m a) u) u .reverse-free))
-
   -- two places with one root, or a pair that is met
   abbrev Joined′ : ℕ → ℕ → Type 0
   Joined′ i j = ((i < suc n) × (j < suc n) × (rootOf (p .parent) i ≡ rootOf (p .parent) j)) ⊎ PairOf t p (pairsMet t m x) i j
@@ -177,7 +171,7 @@ module _ {t : Table} {m : Memory} {x : ℕ} (O : Offered t m x) where
       go (inr u) (inl v) =
           let other = met (reverseOf t a) k (subst (Has p) (sym back-row) h) (v .0) (λ w. u .1 (Memᴰ·cast (ap (slotOf p) (sym back-row)) w)) in
           ends (ap (λ (r : ℕ). at (p .slotCell) (slotOf p r)) back-row ∙ e) d (back (pair (inr other)))
-      go (inr u) (inr v) = absurd (none-before a (u .0) (v .0))
+      go (inr u) (inr v) = absurd (none-both (O .sound) a (u .0) (v .0))
 
   roots-united : Labelled (suc n) (Unites t (suc n) (stateOf p)) (rootOf (taking t m x .parent))
   roots-united = rw (taken-parent t m x) (labelled-chain to from (λ i j e. (e .0, e .1))

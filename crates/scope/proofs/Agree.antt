@@ -3,7 +3,7 @@
 --     stands-test, test-stands       `isStanding` is `Stands`
 --     successor-agrees               `successor` answers the ring successor of a standing row
 --     successor-permutes             it permutes the standing rows
---     rows-agree                     `standingRows` lists exactly the rows that stand
+--     rows-agree, rows-fresh         `standingRows` lists exactly the rows that stand, each once
 --     rings-agree                    a list of `rings` is the cycle of the successor from its lowest row, each row standing and there once
 --     row-ring, row-ring-one         every standing row is in exactly one of them; `starts-fresh`: no ring is listed twice
 -- Assumes nothing.
@@ -100,6 +100,10 @@ module _ {t : Table} {cs : List ℕ} (P : Proper t cs) where
         λ m. test-stands (outlines t cs) (reverseOf t) a (mem-below ok (rowCount t) a m .1),
         λ s. below-mem ok (rowCount t) a (proper-given P a (s .0)) (stands-test (outlines t cs) (reverseOf t) a s),
       )
+
+pub rows-fresh : (t : Table) (cs : List ℕ) → Fresh (standingRows t cs)
+unfolding standingRows
+rows-fresh t cs = below-fresh (isStanding (outlines t cs) (reverseOf t)) (rowCount t)
 
 -- ---- rings
 

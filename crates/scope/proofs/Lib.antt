@@ -65,6 +65,7 @@ pub mod Sound
 pub mod Tables
 pub mod RowSearch
 pub mod StateOf
+pub mod PoolCount
 pub mod EvenMode
 pub mod Joining
 pub mod Pairs

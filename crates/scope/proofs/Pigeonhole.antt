@@ -1,14 +1,19 @@
--- THE PIGEONHOLE on lists of numbers: `fresh-length`, different numbers below n are at most n.
+-- THE PIGEONHOLE on lists of numbers.
+--     fresh-within     different members of a list are at most as many as its members
+--     fresh-length     different numbers below n are at most n
+--     one-to-one       what an injective map takes into a list is at most as much
 -- Assumes nothing.
-use mathlib.Core.Path.{_≡_, refl, sym, ap}
+use mathlib.Core.Path.{_≡_, refl, sym, _∙_, ap}
 use mathlib.Core.Logic.{_⊎_, inl, inr, _≢_}
-use mathlib.Core.List.{List, [], _∷_, List·Memᴰ, List·Memᴰ·head, List·Memᴰ·tail, List·Memᴰ·cases-cons, Memᴰ·cast}
+use mathlib.Core.Bool.{true}
+use mathlib.Core.List.{List, [], _∷_, map, List·Memᴰ, List·Memᴰ·head, List·Memᴰ·tail, List·Memᴰ·cases-cons, Memᴰ·cast, Memᴰ·of-map}
 use Prim.Native.Nat.{ℕ, zero, suc, _≤_, _<_}
 use native.Mathlib.Omega.{arith}
-use lib.ListN.{length}
-use Rattle.scope.proofs.Members.{Fresh, mem-dec}
+use lib.ListN.{length, length-append, length-map}
+use Rattle.scope.specs.Lists.{below}
+use Rattle.scope.proofs.Members.{Fresh, below-mem}
 
--- the list without the element at a place
+-- the list without the member at a place
 without : {a : ℕ} {l : List ℕ} → List·Memᴰ a l → List ℕ
 without (List·Memᴰ·head {xs = xs} e) = xs
 without (List·Memᴰ·tail {x = x} m) = x ∷ without m
@@ -18,43 +23,45 @@ unfolding without
 without-length (List·Memᴰ·head e) = refl
 without-length (List·Memᴰ·tail m) = ap suc (without-length m)
 
-without-mem : {a b : ℕ} {l : List ℕ} (m : List·Memᴰ a l) → List·Memᴰ b (without m) → List·Memᴰ b l
+without-rest : {a b : ℕ} {l : List ℕ} (m : List·Memᴰ a l) → b ≢ a → List·Memᴰ b l → List·Memᴰ b (without m)
 unfolding without
-without-mem (List·Memᴰ·head e) i = List·Memᴰ·tail i
-without-mem {b = b} (List·Memᴰ·tail {x = x} {xs = xs} m) i = go (λ j. without-mem m j) (List·Memᴰ·cases-cons i)
+without-rest {b = b} (List·Memᴰ·head {x = x} {xs = xs} e) d i = go (List·Memᴰ·cases-cons i)
   where
-    go : (List·Memᴰ b (without m) → List·Memᴰ b xs) → (b ≡ x) ⊎ List·Memᴰ b (without m) → List·Memᴰ b (x ∷ xs)
-    go ih (inl e) = List·Memᴰ·head e
+    go : (b ≡ x) ⊎ List·Memᴰ b xs → List·Memᴰ b xs
+    go (inl q) = absurd (d (q ∙ sym e))
+    go (inr j) = j
+without-rest {b = b} (List·Memᴰ·tail {x = x} {xs = xs} m) d i = go (λ j. without-rest m d j) (List·Memᴰ·cases-cons i)
+  where
+    go : (List·Memᴰ b xs → List·Memᴰ b (without m)) → (b ≡ x) ⊎ List·Memᴰ b xs → List·Memᴰ b (x ∷ without m)
+    go ih (inl q) = List·Memᴰ·head q
     go ih (inr j) = List·Memᴰ·tail (ih j)
 
-without-fresh : {a : ℕ} {l : List ℕ} (m : List·Memᴰ a l) → Fresh l → Fresh (without m)
-unfolding without
-without-fresh (List·Memᴰ·head e) f = f .1
-without-fresh (List·Memᴰ·tail m) f = (λ i. f .0 (without-mem m i), without-fresh m (f .1))
+-- THE PIGEONHOLE
+pub fresh-within : (l k : List ℕ) → Fresh l → ((a : ℕ) → List·Memᴰ a l → List·Memᴰ a k) → length l ≤ length k
+fresh-within [] k f b = omega arith
+fresh-within (x ∷ l) k f b =
+    let m = b x (List·Memᴰ·head refl) in
+    let h = fresh-within l (without m) (f .1) (λ a i. without-rest m (λ (e : a ≡ x). f .0 (Memᴰ·cast (sym e) i)) (b a (List·Memᴰ·tail i))) in
+    omega (arith, without-length m)
 
-without-gone : {a : ℕ} {l : List ℕ} (m : List·Memᴰ a l) → Fresh l → List·Memᴰ a (without m) → ⊥
-unfolding without
-without-gone (List·Memᴰ·head e) f i = f .0 (Memᴰ·cast (sym e) i)
-without-gone {a} (List·Memᴰ·tail {x = x} m) f i = go (λ j. without-gone m (f .1) j) (List·Memᴰ·cases-cons i)
-  where
-    go : (List·Memᴰ a (without m) → ⊥) → (a ≡ x) ⊎ List·Memᴰ a (without m) → ⊥
-    go ih (inl e) = f .0 (Memᴰ·cast (sym e) m)
-    go ih (inr j) = ih j
+all-below : (n : ℕ) → length (below (λ a. true) n) ≡ n
+unfolding below
+all-below zero = refl
+all-below (suc n) = let h = all-below n in let e = length-append (below (λ a. true) n) (n ∷ []) in omega arith
 
--- THE PIGEONHOLE: a list of different numbers below n has at most n elements
 pub fresh-length : (n : ℕ) (l : List ℕ) → Fresh l → ((a : ℕ) → List·Memᴰ a l → a < n) → length l ≤ n
-fresh-length zero [] f b = omega arith
-fresh-length zero (x ∷ l) f b = let h : x < 0 = b x (List·Memᴰ·head refl) in omega arith
-fresh-length (suc n) l f b = go (mem-dec n l) (λ k g c. fresh-length n k g c)
-  where
-    go : Dec (List·Memᴰ n l) → ((k : List ℕ) → Fresh k → ((a : ℕ) → List·Memᴰ a k → a < n) → length k ≤ n) → length l ≤ suc n
-    go (no m) ih = let h : length l ≤ n = ih l f (λ a i. below a i (λ (e : a ≡ n). m (Memᴰ·cast (sym e) i))) in omega arith
-      where
-        below : (a : ℕ) → List·Memᴰ a l → (a ≢ n) → a < n
-        below a i d = let h : a < suc n = b a i in omega arith
-    go (yes m) ih =
-        let h : length (without m) ≤ n = ih (without m) (without-fresh m f) (λ a i. below a i (λ (e : a ≡ n). without-gone m f (Memᴰ·cast (sym e) i))) in
-        omega (arith, without-length m)
-      where
-        below : (a : ℕ) → List·Memᴰ a (without m) → (a ≢ n) → a < n
-        below a i d = let h : a < suc n = b a (without-mem m i) in omega arith
+fresh-length n l f b = let h = fresh-within l (below (λ a. true) n) f (λ a i. below-mem (λ a. true) n a (b a i) refl) in omega (arith, all-below n)
+
+module _ (f : ℕ → ℕ) where
+  fresh-map : (l : List ℕ) → Fresh l → ((a b : ℕ) → List·Memᴰ a l → List·Memᴰ b l → f a ≡ f b → a ≡ b) → Fresh (map f l)
+  fresh-map [] g inj = tt
+  fresh-map (x ∷ l) g inj = (
+    λ i. let r = Memᴰ·of-map f l i in g .0 (Memᴰ·cast (inj x (r .0) (List·Memᴰ·head refl) (List·Memᴰ·tail (r .1)) (sym (r .2))) (r .1)),
+    fresh-map l (g .1) (λ a b i j. inj a b (List·Memᴰ·tail i) (List·Memᴰ·tail j)),
+  )
+
+  pub one-to-one : (l k : List ℕ) → Fresh l → ((a : ℕ) → List·Memᴰ a l → List·Memᴰ (f a) k)
+      → ((a b : ℕ) → List·Memᴰ a l → List·Memᴰ b l → f a ≡ f b → a ≡ b) → length l ≤ length k
+  one-to-one l k g into inj =
+      let h = fresh-within (map f l) k (fresh-map l g inj) (λ b i. let r = Memᴰ·of-map f l i in Memᴰ·cast (sym (r .2)) (into (r .0) (r .1))) in
+      omega (arith, length-map l f)

@@ -67,6 +67,7 @@ pub mod RowSearch
 pub mod StateOf
 pub mod PoolCount
 pub mod EvenMode
+pub mod AfreshFree
 pub mod Joining
 pub mod Pairs
 pub mod Taking

@@ -6,3 +6,4 @@ pub mod Round
 pub mod Pair
 pub mod Closing
 pub mod Pairs
+pub mod Gone

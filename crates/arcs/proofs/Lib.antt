@@ -7,3 +7,5 @@ pub mod Pair
 pub mod Closing
 pub mod Pairs
 pub mod Gone
+pub mod After
+pub mod Cancelling

@@ -9,3 +9,4 @@ pub mod Pairs
 pub mod Gone
 pub mod After
 pub mod Cancelling
+pub mod Skipping

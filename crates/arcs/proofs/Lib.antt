@@ -10,3 +10,4 @@ pub mod Gone
 pub mod After
 pub mod Cancelling
 pub mod Skipping
+pub mod Pairing

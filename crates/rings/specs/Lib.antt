@@ -1,0 +1,5 @@
+-- What the functions of this crate ask and promise.
+pub mod Links
+pub mod Marking
+pub mod Laying
+pub mod Grouping

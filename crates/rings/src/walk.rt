@@ -1,0 +1,91 @@
+// Going round the rings of a state: the next row, a ring marked, all rings counted and listed.
+ghost use mathlib.Core.Path.{_≡_};
+ghost use lib.ListN.{length};
+ghost use Prim.Native.Nat.{_<_, _≤_};
+ghost use Rattle.scope.specs.Order.{nextRow};
+ghost use Rattle.rings.specs.Links.{OnRing};
+ghost use Rattle.rings.specs.Marking.{MarkReady, Marked, unmarked, CountReady, Counted, ListReady, Listed};
+use slices::get32;
+use slices::put32;
+
+// The row that follows r in its ring.
+pub(crate) fn next_row(row_slot: &[u32], slot_row: &[u32], next: &[u32], r: usize) -> usize
+    requires { ⌜ OnRing (now «row_slot») (now «slot_row») (now next) r ⌝ }
+    ensures { λ x. ⌜ x ≡ nextRow (now («row_slot» .entry)) (now («slot_row» .entry)) (now (next .entry)) r ⌝ }
+{
+    let slot = get32(next, get32(row_slot, r) - 1);
+    get32(slot_row, slot) - 1
+}
+
+// Marks the rows of r's ring with 1, and r itself with 2; the answer is how many there are.
+fn mark_ring(row_slot: &[u32], slot_row: &[u32], next: &[u32], mark: &mut [u32], r: usize) -> usize
+    requires { ⌜ MarkReady (now «row_slot») (now «slot_row») (now next) (now mark) r ⌝ }
+    ensures { λ k. ⌜ Marked (now («row_slot» .entry)) (now («slot_row» .entry)) (now (next .entry)) (now (mark .entry)) r (now (mark .exit)) k ⌝ }
+{
+    let mut k: usize = 0;
+    let mut x = r;
+    let mut more = true;
+    while more {
+        put32(mark, x, 1);
+        k += 1;
+        x = next_row(row_slot, slot_row, next, x);
+        more = x != r;
+    }
+    put32(mark, r, 2);
+    k
+}
+
+// Whether the row i stands and has no mark.
+fn is_unmarked(row_slot: &[u32], mark: &[u32], i: usize) -> bool
+    requires { ⌜ (i < length (now «row_slot»)) × (i < length (now mark)) ⌝ }
+    ensures { λ r. ⌜ r ≡ unmarked (now («row_slot» .entry)) (now (mark .entry)) i ⌝ }
+{
+    (get32(row_slot, i) != 0) & (get32(mark, i) == 0)
+}
+
+pub(crate) struct Counts {
+    pub rings: usize,
+    pub edges: usize,
+}
+
+// How many rings there are, and how many edges they have. The lowest row of each is marked with 2, the others with 1.
+pub(crate) fn count_rings(
+    row_slot: &[u32],
+    slot_row: &[u32],
+    next: &[u32],
+    mark: &mut [u32],
+) -> Counts
+    requires { ⌜ CountReady (now «row_slot») (now «slot_row») (now next) (now mark) ⌝ }
+    ensures { λ c. ⌜ Counted (now («row_slot» .entry)) (now («slot_row» .entry)) (now (next .entry)) (now (mark .entry)) (now (mark .exit)) (c .rings) (c .edges) ⌝ }
+{
+    let mut rings: usize = 0;
+    let mut edges: usize = 0;
+    let mut i: usize = 0;
+    while i < row_slot.len() {
+        if is_unmarked(row_slot, mark, i) {
+            edges += mark_ring(row_slot, slot_row, next, mark, i);
+            rings += 1;
+        }
+        i += 1;
+    }
+    Counts {
+        rings: rings,
+        edges: edges,
+    }
+}
+
+// Writes the rows that are marked with 2, ascending.
+pub(crate) fn list_rings(mark: &[u32], out: &mut [u32])
+    requires { ⌜ ListReady (now mark) (now out) ⌝ }
+    ensures { λ _. ⌜ Listed (now (mark .entry)) (now (out .entry)) (now (out .exit)) ⌝ }
+{
+    let mut m: usize = 0;
+    let mut i: usize = 0;
+    while i < mark.len() {
+        if get32(mark, i) == 2 {
+            put32(out, m, i);
+            m += 1;
+        }
+        i += 1;
+    }
+}

@@ -47,8 +47,11 @@ pub mod Linked
 pub mod Cancelling
 pub mod Seven
 pub mod Odd
+pub mod Mixed
 pub mod Computing
 pub mod ExampleKinds
+pub mod ExampleTest
+pub mod MoreExamples
 pub mod Examples
 pub mod Stores
 pub mod Orders

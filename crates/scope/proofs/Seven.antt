@@ -3,7 +3,7 @@
 use Prim.Native.Nat.{ℕ}
 use mathlib.Core.List.{List, [], _∷_, map}
 use lib.Ieee.{Float, binary64, ofBits}
-use Rattle.scope.specs.Table.{Table}
+use Rattle.scope.specs.Table.{Table, table}
 
 unfoldable pub edgeNumbers : List ℕ
 edgeNumbers =
@@ -39,7 +39,8 @@ areaBits =
     0xbeff9d52c5573376 ∷ 0xbeff9e3106da18a8 ∷ 0xbeff9ce32dcd4466 ∷ 0xbeff9dc16b23b554 ∷ 0xbeff9f0e4809313c ∷ 0xbeff9e9faa624b63 ∷ []
 
 unfoldable pub seven : Table
-seven = record { edges = edgeNumbers; reverse = reverseRows; area = map (ofBits binary64) areaBits }
+unfolding edgeNumbers reverseRows areaBits
+seven = table edgeNumbers reverseRows (map (ofBits binary64) areaBits)
 
 unfoldable pub centre : ℕ
 centre = 0x8928308280fffff

@@ -80,9 +80,9 @@ lent t slots places = memory (replicate 2 7) (replicate places 7) (replicate pla
 unfoldable pub space : ℕ → ℕ → Output
 space records rows = output (replicate records 7) (replicate records 7) (replicate records 7) (replicate records nan) (replicate rows 7)
 
-unfoldable pub opened : Table → ℕ → ℕ → ℕ → Outcome
-unfolding lent isEdge Ieee.ofBits Lists.from Lists.firstBad Table.isFinite Table.ascends Table.paired Table.rowGood Table.tableVerdict Memory.opened Memory.lengthsFit Calls.openVerdict opening
-opened t slots places mode = opening t (lent t slots places) mode
+unfoldable pub opened : Table → Memory → ℕ → Outcome
+unfolding isEdge Ieee.ofBits Lists.from Lists.firstBad Table.isFinite Table.ascends Table.paired Table.rowGood Table.tableVerdict Memory.opened Memory.lengthsFit Calls.openVerdict opening
+opened t m mode = opening t m mode
 
 unfoldable pub listed : ℕ → ℕ → ℕ → List ℕ → Verdict
 unfolding isCell isUnder Lists.from Lists.firstBad CellLists.resolutionFits listVerdict

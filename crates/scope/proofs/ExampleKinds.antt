@@ -99,6 +99,10 @@ pub data Example : Type 0 where
   surrounds : (table : Table) → (cells lengths places groups : List ℕ) → Example
   -- Opening: the refusal and its index, and the mode that the memory then holds.
   opens : (table : Table) → (slots places mode refusal index kept : ℕ) → Example
+  -- With one number less in a slice of the memory opening refuses it, and with one record less in the lengths, the groups or the areas of the
+  -- ring list reading out does: 10.
+  shortens : (table : Table) → (slots places : ℕ) → (slice : Slice) → Example
+  misfits : (run : Offers) → Example
   -- Offers: the last answer's refusal and index; the parents and ranks that they leave.
   offers : (run : Offers) → (refusal index : ℕ) → Example
   unites : (run : Offers) → (parents ranks : List ℕ) → Example

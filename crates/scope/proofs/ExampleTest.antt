@@ -11,10 +11,10 @@ use Rattle.scope.specs.declared.Verdict.{Verdict}
 use Rattle.scope.specs.Lists.{headOr}
 use Rattle.scope.specs.Answers.{refusalOf, indexOf, kindOf, verdictOf, polygonsOf, ringsOf, areaIn}
 use Rattle.scope.specs.Cells.{edgeNumber, resolutionOf}
-use Rattle.scope.specs.Memory.{Memory, memory, Output, keptMode}
+use Rattle.scope.specs.Memory.{Memory, memory, Output, output, keptMode}
 use Rattle.scope.specs.Calls.{Outcome, Reading, over}
 use Rattle.scope.proofs.Computing.{isCell, isEdge, isUnder, walked, summed, noLarger, found, ringsAfresh, groupsAfresh, lent, space, opened, listed, joined, offer, offerAll, read, dissolved}
-use Rattle.scope.proofs.ExampleKinds.{Offers, Shown, Slice, Change, Example, head, cells, parent, rank, cellMark, slotRow, slotCell, prev, next, rowSlot, rowMark, validCells, validEdges, nests, walks, adds, compares, finds, surrounds, opens, offers, unites, refuses, intrudes, reads, breaks, dissolves, lists, joins}
+use Rattle.scope.proofs.ExampleKinds.{Offers, Shown, Slice, Change, Example, head, cells, parent, rank, cellMark, slotRow, slotCell, prev, next, rowSlot, rowMark, validCells, validEdges, nests, walks, adds, compares, finds, surrounds, opens, shortens, misfits, offers, unites, refuses, intrudes, reads, breaks, dissolves, lists, joins}
 
 -- ---- equality and tests over lists, computed
 
@@ -108,8 +108,8 @@ shows q before rs s =
     && same (drop (sum (s .lengths)) (q .out .edges)) (drop (sum (s .lengths)) (before .edges))
 
 fresh : Offers → Outcome
-unfolding opened
-fresh r = opened (r .table) (r .slots) (r .places) (r .mode)
+unfolding lent opened
+fresh r = opened (r .table) (lent (r .table) (r .slots) (r .places)) (r .mode)
 
 offered : Offers → Outcome
 unfolding fresh offerAll
@@ -126,7 +126,7 @@ digits : ℕ → ℕ → ℕ
 digits c x = x / 2 ^ (3 * (15 - resolutionOf x)) % 8 ^ (resolutionOf x - c) * 8 + edgeNumber x
 
 unfoldable pub holds : Example → Bool
-unfolding same allSame allPass stepsPass isRefusal slices remade changed shows fresh offered room digits isCell isEdge isUnder walked summed noLarger found ringsAfresh groupsAfresh lent opened listed joined offer read dissolved
+unfolding same allSame allPass stepsPass isRefusal slices placeOf remade changed shows fresh offered room digits isCell isEdge isUnder walked summed noLarger found ringsAfresh groupsAfresh lent opened listed joined offer read dissolved
 holds (validCells valid invalid) = allPass isCell valid && allPass (λ x. not (isCell x)) invalid
 holds (validEdges valid invalid) = allPass isEdge valid && allPass (λ x. not (isEdge x)) invalid
 holds (nests x under beside) = allPass (λ a. isUnder a x) under && allPass (λ a. not (isUnder a x)) beside
@@ -140,8 +140,19 @@ holds (compares up level) =
 holds (finds ps a root left) = let h = found ps a in eqb (h .root) root && same (h .parents) left
 holds (surrounds t cs ls ps gs) = same (map length (ringsAfresh t cs)) ls && same (groupsAfresh t cs ps) gs
 holds (opens t slots places mode number index kept) =
-    let o = opened t slots places mode in
+    let o = opened t (lent t slots places) mode in
     isRefusal (o .answer) number index && eqb (keptMode (o .left)) kept
+holds (shortens t slots places slice) =
+    let k = placeOf slice in
+    let ls = slices (lent t slots places) in
+    isRefusal (opened t (remade (set ls k (drop 1 (getD ls k [])))) 0 .answer) 10 0
+holds (misfits r) =
+    let m = offered r .left in
+    let o = room r in
+    let answered : Output → Bool = λ p. isRefusal (verdictOf (read (r .table) m p .answer)) 10 0 in
+    answered (output (o .start) (drop 1 (o .size)) (o .group) (o .area) (o .edges))
+    && answered (output (o .start) (o .size) (drop 1 (o .group)) (o .area) (o .edges))
+    && answered (output (o .start) (o .size) (o .group) (drop 1 (o .area)) (o .edges))
 holds (offers r number index) = isRefusal (offered r .answer) number index
 holds (unites r ps rs) = let m = offered r .left in same (m .parent) ps && same (m .rank) rs
 holds (refuses r x number index) =

@@ -10,7 +10,7 @@ use Rattle.scope.proofs.ExampleTest.{every}
 use Rattle.scope.proofs.MoreExamples.{bounds, states, coarser}
 use Rattle.scope.proofs.Seven.{seven, centre, around}
 use Rattle.scope.proofs.Mixed.{mixed, coarse, inside, beside, overBeside}
-use Rattle.scope.proofs.Odd.{odd, withEdge, withReverse, withTerm, first, second, third, absent, underFirst, alsoUnderFirst, underSecond}
+use Rattle.scope.proofs.Odd.{odd, fewReverses, fewTerms, withEdge, withReverse, withTerm, first, second, third, absent, underFirst, alsoUnderFirst, underSecond}
 
 onSeven : ℕ → List ℕ → Offers
 onSeven slots cs = even seven slots 7 3 30 cs
@@ -56,5 +56,5 @@ unfolding documented bounds states coarser
 examples = documented ++ bounds ++ states ++ coarser
 
 examples-hold : T (every examples)
-unfolding every examples seven centre around mixed coarse inside beside overBeside odd withEdge withReverse withTerm first second third absent underFirst alsoUnderFirst underSecond
+unfolding every examples seven centre around mixed coarse inside beside overBeside odd fewReverses fewTerms withEdge withReverse withTerm first second third absent underFirst alsoUnderFirst underSecond
 examples-hold = tt

@@ -4,11 +4,12 @@
 use Prim.Native.Nat.{ℕ}
 use mathlib.Core.List.{List, [], _∷_}
 use lib.ListN.{take}
-use Rattle.scope.proofs.ExampleKinds.{Example, validCells, validEdges, nests, walks, compares, finds, surrounds, opens, offers, unites, refuses, intrudes, reads, breaks, dissolves, lists, joins}
+use Rattle.scope.specs.Table.{table}
+use Rattle.scope.proofs.ExampleKinds.{Example, validCells, validEdges, nests, walks, compares, finds, surrounds, opens, shortens, misfits, offers, unites, refuses, intrudes, reads, breaks, dissolves, lists, joins}
 use Rattle.scope.proofs.ExampleKinds.{Offers, even, mixedMode, closed, refused, outlined, put, head, cells, parent, rank, cellMark, slotRow, slotCell, prev, next, rowSlot, rowMark}
 use Rattle.scope.proofs.Seven.{seven, around}
 use Rattle.scope.proofs.Mixed.{mixed, coarse, inside, beside, overBeside}
-use Rattle.scope.proofs.Odd.{odd, withEdge, withReverse, withTerm, first, second, third, absent, underFirst, alsoUnderFirst, underSecond}
+use Rattle.scope.proofs.Odd.{odd, fewReverses, fewTerms, withEdge, withReverse, withTerm, first, second, third, absent, underFirst, alsoUnderFirst, underSecond}
 
 -- the standing edges of the 49 cells of resolution 9 under 872830828ffffff, and of the 41 of resolution 2 under the pentagon 08009fffffffffff, in
 -- the order of their one ring, as real tables of these resolutions have them
@@ -53,12 +54,29 @@ bounds =
     ∷ compares [] (0x7ff8000000000000 ∷ 0x7ff8000000000000 ∷ [])
     -- find halves the path
     ∷ finds (1 ∷ 2 ∷ 3 ∷ 3 ∷ []) 0 3 (2 ∷ 2 ∷ 3 ∷ 3 ∷ [])
-    -- modes: 2 means even, above 2 is refused; capacities of 0
+    -- modes: 2 means even, above 2 is refused; capacities of 0 and past the largest; slices of another length
     ∷ opens odd 11 3 2 0 0 0
     ∷ opens odd 11 3 1 0 0 1
     ∷ opens odd 11 3 3 10 0 7
     ∷ opens odd 0 3 0 10 0 7
     ∷ opens odd 11 0 0 10 0 7
+    ∷ opens odd 65537 3 0 10 0 7
+    ∷ opens odd 11 16385 0 10 0 7
+    ∷ opens fewReverses 11 3 0 10 0 7
+    ∷ opens fewTerms 11 3 0 10 0 7
+    ∷ shortens odd 11 3 head
+    ∷ shortens odd 11 3 cells
+    ∷ shortens odd 11 3 parent
+    ∷ shortens odd 11 3 rank
+    ∷ shortens odd 11 3 cellMark
+    ∷ shortens odd 11 3 slotRow
+    ∷ shortens odd 11 3 slotCell
+    ∷ shortens odd 11 3 prev
+    ∷ shortens odd 11 3 next
+    ∷ shortens odd 11 3 rowSlot
+    ∷ shortens odd 11 3 rowMark
+    -- no row at all
+    ∷ opens (table [] [] []) 11 3 0 1 0 7
     -- the lowest bad row: out of order the later, not valid, reverse out of range, itself, not naming back, area term not finite
     ∷ opens (withEdge 4 0x11007fffffffffff) 11 3 0 1 4 7
     ∷ opens (withEdge 5 0x12009ffffffffffe) 11 3 0 1 5 7
@@ -103,6 +121,7 @@ states =
     ∷ dissolves (even odd 9 3 4 8 (second ∷ first ∷ [])) (refused 7 1)
     ∷ dissolves (even odd 10 3 3 8 (second ∷ first ∷ [])) (refused 10 0)
     ∷ reads (even odd 10 3 4 7 (second ∷ first ∷ [])) (refused 10 0)
+    ∷ misfits (two 4 8)
     -- 8, 5, 7
     ∷ refuses (even odd 11 1 4 8 (first ∷ [])) absent 8 0
     ∷ refuses (even odd 5 3 4 8 []) absent 5 0

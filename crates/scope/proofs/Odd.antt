@@ -6,7 +6,7 @@
 use Prim.Native.Nat.{ℕ}
 use mathlib.Core.List.{List, [], _∷_}
 use lib.Ieee.{Float, binary64, ofBits}
-use lib.ListN.{replicate, set}
+use lib.ListN.{replicate, set, take}
 use Rattle.scope.specs.Table.{Table, table}
 
 -- ---- cells: the four hexagons, one without edges in the table, two cells under the first and one under the second
@@ -57,7 +57,15 @@ unfoldable pub odd : Table
 unfolding edgeNumbers reverseRows terms
 odd = table edgeNumbers reverseRows terms
 
--- ---- tables that break a rule: one row's edge, reverse or area term is another
+-- ---- tables that break a rule: the last reverse or area term is missing; one row's edge, reverse or area term is another
+
+unfoldable pub fewReverses : Table
+unfolding edgeNumbers reverseRows terms
+fewReverses = table edgeNumbers (take 23 reverseRows) terms
+
+unfoldable pub fewTerms : Table
+unfolding edgeNumbers reverseRows terms
+fewTerms = table edgeNumbers reverseRows (take 23 terms)
 
 unfoldable pub withEdge : ℕ → ℕ → Table
 unfolding edgeNumbers reverseRows terms

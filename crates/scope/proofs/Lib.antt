@@ -81,3 +81,5 @@ pub mod TakingStates
 pub mod TakingShows
 pub mod Run
 pub mod Untouched
+pub mod Dissolving
+pub mod DissolveRuns

@@ -76,7 +76,7 @@ module _ (t : Table) where
       go verdict.Accepted e = (refl, e, refl)
       go (verdict.Refused number index) e = refused-not e
 
-  all-none : (m : Memory) → offeringAll t m [] .left ≡ m
+  pub all-none : (m : Memory) → offeringAll t m [] .left ≡ m
   unfolding offeringAll
   all-none m = refl
 

@@ -9,18 +9,19 @@ use mathlib.Core.Path.{_≡_, refl, sym, _∙_, ap, subst}
 use mathlib.Core.Logic.{⊎-elim}
 use mathlib.Core.Bool.{true, false, not}
 use mathlib.Core.List.{List}
-use Prim.Native.Nat.{ℕ, zero, suc, _-_, _≤_, _<_}
+use Prim.Native.Nat.{ℕ, _-_, _≤_, _<_}
 use native.Mathlib.Omega.{arith}
 use borrow.Author.Tests.{not-true}
 use lib.ListN.{length, List·getD-eq-default}
-use Rattle.scope.specs.Lists.{at, tabulate, tabulateFrom}
+use Rattle.scope.specs.Lists.{at, tabulate}
 use Rattle.scope.specs.Table.{Table, rowCount, reverseOf}
 use Rattle.scope.specs.Standing.{Lands, Stands, Successor}
 use Rattle.scope.specs.Memory.{Memory, slots, rowIn, slotOf}
 use Rattle.scope.specs.Order.{nextRow}
 use Rattle.scope.specs.Pool.{reverseSlot, cancels, stays, relinked, ifStays, rowIfStays, cancelled}
 use Rattle.scope.proofs.Tests.{either, clash, le-or-lt}
-use Rattle.scope.proofs.WalkStarts.{tabulate-at}
+pub use Rattle.scope.proofs.Below.{tabulate-length}
+use Rattle.scope.proofs.Below.{tabulate-at}
 use Rattle.scope.proofs.Lands.{lands-to, lands-map}
 use Rattle.scope.proofs.Successor.{Reverses}
 use Rattle.scope.proofs.Returns.{Over, turned, returns, returned-in, returned-stays, returned-back}
@@ -28,16 +29,11 @@ use Rattle.scope.proofs.Linked.{at-in, Used, Has, has-true, has-false, 
 
 -- ---- a list made place by place
 
-pub tabulate-length : (f : ℕ → ℕ) (i n : ℕ) → length (tabulateFrom f i n) ≡ n
-unfolding tabulateFrom
-tabulate-length f i zero = refl
-tabulate-length f i (suc n) = ap suc (tabulate-length f (suc i) n)
-
 -- where f is 0 past the end, f is there at every place
 pub tabulate-all : (f : ℕ → ℕ) (n i : ℕ) → (n ≤ i → f i ≡ 0) → at (tabulate f n) i ≡ f i
 tabulate-all f n i z = ⊎-elim
     (λ (h : n ≤ i). let l = tabulate-length f 0 n in List·getD-eq-default (tabulate f n) 0 (omega arith) ∙ sym (z h))
-    (λ (h : i < n). tabulate-at f 0 n i i (omega arith) h)
+    (λ (h : i < n). tabulate-at f n i h)
     (le-or-lt n i)
 
 -- the row in the next slot of a row's slot
@@ -74,7 +70,7 @@ cancelled-lists t m ss = record {
   slot-cell = each (at (m .slotCell));
   slot-prev = each (relinked t m (m .prev));
   slot-next = each (relinked t m (m .next));
-  row-slot = λ r h. tabulate-at (rowIfStays t m) 0 (rowCount t) r r (omega arith) h;
+  row-slot = λ r h. tabulate-at (rowIfStays t m) (rowCount t) r h;
 }
   where
     each : (f : ℕ → ℕ) (s : ℕ) → at (tabulate (ifStays t m f) (slots m)) s ≡ ifStays t m f s

@@ -83,3 +83,4 @@ pub mod Run
 pub mod Untouched
 pub mod Dissolving
 pub mod DissolveRuns
+pub mod ViewsAlike

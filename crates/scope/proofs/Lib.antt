@@ -84,3 +84,5 @@ pub mod Untouched
 pub mod Dissolving
 pub mod DissolveRuns
 pub mod ViewsAlike
+pub mod ShownAfresh
+pub mod WhateverOrder

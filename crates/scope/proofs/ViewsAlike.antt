@@ -42,7 +42,7 @@ pub record Alike (v w : View) : Type 0 where
 -- ---- every member of a list
 
 module _ (P : ℕ → Type 0) where
-  all-mem : (l : List ℕ) → ((x : ℕ) → List·Memᴰ x l → P x) → All P l
+  pub all-mem : (l : List ℕ) → ((x : ℕ) → List·Memᴰ x l → P x) → All P l
   all-mem [] f = tt
   all-mem (x ∷ l) f = (f x (List·Memᴰ·head refl), all-mem l (λ y m. f y (List·Memᴰ·tail m)))
 
@@ -60,7 +60,7 @@ module _ (P : ℕ → Type 0) where
   keep-cong ok ko e [] a = refl
   keep-cong ok ko e (x ∷ l) a = rw (e x (a .0), keep-cong ok ko e l (a .1))
 
-  map-cong : {B : Type 0} (f g : ℕ → B) → ((x : ℕ) → P x → f x ≡ g x) → (l : List ℕ) → All P l → map f l ≡ map g l
+  pub map-cong : {B : Type 0} (f g : ℕ → B) → ((x : ℕ) → P x → f x ≡ g x) → (l : List ℕ) → All P l → map f l ≡ map g l
   map-cong f g e [] a = refl
   map-cong f g e (x ∷ l) a = rw (e x (a .0), map-cong f g e l (a .1))
 

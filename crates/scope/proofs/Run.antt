@@ -4,7 +4,7 @@
 --     all-shown         offers in a row that are all accepted
 --     call-shown        each call keeps it
 --     run-shown         so does a run
---     run-shows         the demand, from a memory whose lengths fit and a table that passes 1
+--     run-shows         THE DEMAND, from a memory whose lengths fit and a table that passes 1; `run-rules`, `run-lengths`: 9 and 10 are never met
 -- Assumes nothing.
 use mathlib.Core.Path.{_≡_, refl}
 use mathlib.Core.Bool.{Bool, true, false, cond}
@@ -136,11 +136,20 @@ module _ (t : Table) where
   run-shown [] h S = S
   run-shown (call ∷ calls) h S = run-shown calls _ (call-shown call (h .memory) (h .cells) S)
 
--- THE DEMAND
-pub run-shows : (t : Table) (m : Memory) (mode : ℕ) (calls : List Call) → tableVerdict t ≡ verdict.Accepted → lengthsFit t m ≡ true
-    → (lengthsFit t (run t calls (record { memory = opened mode m; cells = [] }) .memory) ≡ true)
-    × (rulesKept t (run t calls (record { memory = opened mode m; cells = [] }) .memory) ≡ true)
-    × Shows t (run t calls (record { memory = opened mode m; cells = [] }) .memory) (run t calls (record { memory = opened mode m; cells = [] }) .cells)
-run-shows t m mode calls e l =
-    let S = run-shown t calls (record { memory = opened mode m; cells = [] }) (opened-shown t m mode e (lengths-good t m l)) in
-    (lengths-kept t _ (S .sound .lengths), rules-kept t _ (S .sound .rules), S .shows)
+-- A run of calls in a memory that is opened first.
+abbrev pub ran : Table → ℕ → Memory → List Call → History
+ran t mode m calls = run t calls (record { memory = opened mode m; cells = [] })
+
+module _ (t : Table) (m : Memory) (mode : ℕ) (calls : List Call) (checked : tableVerdict t ≡ verdict.Accepted) (fits : lengthsFit t m ≡ true) where
+  pub ran-shown : Shown t (ran t mode m calls .memory) (ran t mode m calls .cells)
+  ran-shown = run-shown t calls (record { memory = opened mode m; cells = [] }) (opened-shown t m mode checked (lengths-good t m fits))
+
+  -- THE DEMAND
+  pub run-shows : Shows t (ran t mode m calls .memory) (ran t mode m calls .cells)
+  run-shows = ran-shown .shows
+
+  pub run-rules : rulesKept t (ran t mode m calls .memory) ≡ true
+  run-rules = rules-kept t (ran t mode m calls .memory) (ran-shown .sound .rules)
+
+  pub run-lengths : lengthsFit t (ran t mode m calls .memory) ≡ true
+  run-lengths = lengths-kept t (ran t mode m calls .memory) (ran-shown .sound .lengths)

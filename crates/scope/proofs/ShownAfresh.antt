@@ -4,6 +4,7 @@
 --     shown-rings        the rings read of the state are `rings t cs`; `shown-starts`, `shown-ring`: by their lowest rows, one by one
 --     shown-group        the group of a row is written as `groupPlace` of its cell's place
 --     shown-pool         free slots plus standing edges equal the pool's size
+--     run-rings, run-pool     so it is after any run of calls
 -- Assumes nothing.
 use mathlib.Core.Path.{_≡_, sym, _∙_, ap, subst}
 use mathlib.Core.Logic.{⊎-elim}
@@ -13,11 +14,11 @@ use Prim.Native.Nat.{ℕ, _+_}
 use lib.Dec.{eqb}
 use lib.ListN.{length}
 use Rattle.scope.specs.Lists.{at, below, firstBad}
-use Rattle.scope.specs.Table.{Table, rowCount, reverseOf}
+use Rattle.scope.specs.Table.{Table, rowCount, reverseOf, tableVerdict}
 use Rattle.scope.specs.Standing.{outlines}
 use Rattle.scope.specs.Afresh.{isStanding, successor, standingRows, ring, startsRing, rings, groupPlace}
 use Rattle.scope.specs.UnionFind.{rootOf}
-use Rattle.scope.specs.Memory.{Memory, slots, hasSlot, slotOf}
+use Rattle.scope.specs.Memory.{Memory, slots, hasSlot, slotOf, lengthsFit}
 use Rattle.scope.specs.Pool.{freeSlots}
 use Rattle.scope.specs.Order.{view, ringAt, lowestRows, groupOf, groupAt}
 use Rattle.scope.proofs.Tests.{either, same}
@@ -37,6 +38,9 @@ use Rattle.scope.proofs.TakingCells.{Shown}
 use Rattle.scope.proofs.TakingShows.{shown-count, shown-holds}
 use Rattle.scope.proofs.Sorting.{All}
 use Rattle.scope.proofs.Untouched.{rows-permute}
+use Rattle.scope.specs.declared.Verdict.the-variants.{Accepted}
+use Rattle.scope.specs.Demands.{Call}
+use Rattle.scope.proofs.Run.{ran, ran-shown}
 use Rattle.scope.proofs.ViewsAlike.{all-mem, map-cong}
 
 -- the next row permutes the rows with a slot
@@ -94,3 +98,12 @@ module _ {t : Table} {m : Memory} {cs : List ℕ} (S : Shown t m cs) where
   -- THE POOL
   pub shown-pool : length (freeSlots m) + length (standingRows t cs) ≡ slots m
   shown-pool = pool-count (S .proper) (sound-linked (S .sound)) K
+
+-- ---- after any run of calls
+
+module _ (t : Table) (m : Memory) (mode : ℕ) (calls : List Call) (checked : tableVerdict t ≡ Accepted) (fits : lengthsFit t m ≡ true) where
+  pub run-rings : map (ringAt (view t (ran t mode m calls .memory))) (lowestRows (view t (ran t mode m calls .memory))) ≡ rings t (ran t mode m calls .cells)
+  run-rings = shown-rings (ran-shown t m mode calls checked fits)
+
+  pub run-pool : length (freeSlots (ran t mode m calls .memory)) + length (standingRows t (ran t mode m calls .cells)) ≡ slots (ran t mode m calls .memory)
+  run-pool = shown-pool (ran-shown t m mode calls checked fits)

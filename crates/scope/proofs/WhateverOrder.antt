@@ -21,9 +21,9 @@ use Rattle.scope.specs.Lists.{at}
 use Rattle.scope.specs.Table.{Table, tableVerdict}
 use Rattle.scope.specs.Standing.{OneGroup}
 use Rattle.scope.specs.UnionFind.{rootOf}
-use Rattle.scope.specs.Memory.{Memory, hasSlot, slotOf, opened, lengthsFit}
+use Rattle.scope.specs.Memory.{Memory, hasSlot, slotOf, lengthsFit}
 use Rattle.scope.specs.Order.{view, groupAt, readAnswer}
-use Rattle.scope.specs.Demands.{Call, run}
+use Rattle.scope.specs.Demands.{Call}
 use Rattle.scope.proofs.Tests.{same}
 use Rattle.scope.proofs.Members.{mem-at}
 use Rattle.scope.proofs.Proper.{SameMembers}
@@ -34,11 +34,10 @@ use Rattle.scope.proofs.StateOf.{stateOf}
 use Rattle.scope.proofs.History.{same-rows, same-links, same-groups}
 use Rattle.scope.proofs.Linked.{has-true, true-has}
 use Rattle.scope.proofs.Cancelling.{rowAfter}
-use Rattle.scope.proofs.Lengths.{lengths-good}
 use Rattle.scope.proofs.TakingCells.{Shown}
 use Rattle.scope.proofs.TakingShows.{shown-count, shown-holds}
 use Rattle.scope.proofs.ViewsAlike.{Alike, alike-answer}
-use Rattle.scope.proofs.Run.{opened-shown, run-shown}
+use Rattle.scope.proofs.Run.{ran, ran-shown}
 use Rattle.scope.proofs.ShownAfresh.{view-turns, shown-group}
 
 module _ {t : Table} {m k : Memory} {cs ds : List ℕ} (S : Shown t m cs) (T : Shown t k ds) (E : SameMembers cs ds) where
@@ -134,7 +133,7 @@ module _ {t : Table} {m k : Memory} {cs ds : List ℕ} (S : Shown t m cs) (T : S
       none (x ∷ cs) [] E = absurd (List·Memᴰ·not-nil (E .0 x (List·Memᴰ·head refl)))
       none (x ∷ cs) (y ∷ ds) E = ne-eqb (length (y ∷ ds)) 0 (omega arith) ∙ sym (ne-eqb (length (x ∷ cs)) 0 (omega arith))
 
--- two runs of calls over one table, each in a memory of its own
+-- what two runs of calls over one table, each in a memory of its own, have left
 pub record Runs (t : Table) (m k : Memory) (cs ds : List ℕ) : Type 0 where
   pub rows : (a : ℕ) → hasSlot k a ≡ hasSlot m a
   pub links : (a : ℕ) → hasSlot m a ≡ true → rowAfter k a ≡ rowAfter m a
@@ -144,10 +143,9 @@ pub record Runs (t : Table) (m k : Memory) (cs ds : List ℕ) : Type 0 where
   pub answer : readAnswer (view t k) ≡ readAnswer (view t m)
 
 pub runs-alike : (t : Table) (m k : Memory) (mode mode′ : ℕ) (calls calls′ : List Call) → tableVerdict t ≡ Accepted → lengthsFit t m ≡ true → lengthsFit t k ≡ true
-    → SameMembers (run t calls (record { memory = opened mode m; cells = [] }) .cells) (run t calls′ (record { memory = opened mode′ k; cells = [] }) .cells)
-    → Runs t (run t calls (record { memory = opened mode m; cells = [] }) .memory) (run t calls′ (record { memory = opened mode′ k; cells = [] }) .memory)
-    (run t calls (record { memory = opened mode m; cells = [] }) .cells) (run t calls′ (record { memory = opened mode′ k; cells = [] }) .cells)
+    → SameMembers (ran t mode m calls .cells) (ran t mode′ k calls′ .cells)
+    → Runs t (ran t mode m calls .memory) (ran t mode′ k calls′ .memory) (ran t mode m calls .cells) (ran t mode′ k calls′ .cells)
 runs-alike t m k mode mode′ calls calls′ e l l′ E =
-    let S = run-shown t calls (record { memory = opened mode m; cells = [] }) (opened-shown t m mode e (lengths-good t m l)) in
-    let T = run-shown t calls′ (record { memory = opened mode′ k; cells = [] }) (opened-shown t k mode′ e (lengths-good t k l′)) in
+    let S = ran-shown t m mode calls e l in
+    let T = ran-shown t k mode′ calls′ e l′ in
     record { rows = order-rows S T E; links = order-links S T E; groups = order-groups S T E; views = order-views S T E; answer = order-answer S T E }

@@ -8,7 +8,6 @@ use mathlib.Core.List.{List, [], _∷_, _++_, append-nil, append-assoc, map}
 use Prim.Native.Nat.{ℕ}
 use Rattle.scope.specs.declared.Verdict.{Verdict}
 use Rattle.scope.specs.declared.Verdict.the-variants as verdict
-use Rattle.scope.specs.declared.ReadOut.the-variants as readout
 use Rattle.scope.specs.Answers.{require, _▷_, ifAccepted, verdictOf}
 use Rattle.scope.specs.Table.{Table}
 use Rattle.scope.specs.Memory.{Memory, Output, opened, outputsAgree}

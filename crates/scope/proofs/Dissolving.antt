@@ -1,6 +1,7 @@
 -- DISSOLVE IS ITS CALLS: open, then offers in list order, then read out.
 --     all-mode, all-places     offers change neither the mode nor the capacity
---     inner-offer              in a list that passes, an offer after the cells before it passes all tests up to the outline's own: 5, 6 or 7
+--     inner-offer              in a list that passes, an offer after the cells before it passes all tests up to the outline's own: 5, 6 or 7;
+--                              `inner-index`: these return its place in the list
 --     dissolve-is              where opening, offers and read out are carried out, so is dissolve, with the same answer, memory and outputs
 --     dissolve-calls           and where dissolve is carried out, so are they
 -- Assumes nothing.
@@ -9,9 +10,9 @@ use mathlib.Core.Bool.{true, _&&_}
 use mathlib.Core.List.{List, [], _∷_, _++_}
 use Prim.Native.Nat.{ℕ}
 use native.Mathlib.Omega.{arith}
+use lib.ListN.{length}
 use Rattle.scope.specs.declared.Verdict.{Verdict}
 use Rattle.scope.specs.declared.Verdict.the-variants as verdict
-use Rattle.scope.specs.declared.ReadOut.the-variants as readout
 use Rattle.scope.specs.Answers.{require, _▷_, verdictOf}
 use Rattle.scope.specs.Table.{Table, targetOf, tableVerdict, outlineRows}
 use Rattle.scope.specs.CellLists.{listVerdict, cellVerdict}
@@ -19,7 +20,6 @@ use Rattle.scope.specs.Memory.{Memory, Output, keptMode, held, heldCells
 use Rattle.scope.specs.Order.{view}
 use Rattle.scope.specs.Pool.{outlineVerdict, taking}
 use Rattle.scope.specs.Calls.{Outcome, openVerdict, stateVerdict, offerVerdict, Reading, readFrom, reading, readVerdict, readingOut, outputFits, offeringAll, dissolveVerdict, working, dissolving}
-use Rattle.scope.specs.Demands.{opens, offers}
 use Rattle.scope.proofs.Tests.{and-left}
 use Rattle.scope.proofs.Verdicts.{first-accepts, second-accepts, both-accept, require-holds, require-accepts}
 use Rattle.scope.proofs.CellLists.{ListGood, list-accepted}
@@ -30,7 +30,7 @@ use Rattle.scope.proofs.Taking.{taken-mode, taken-room}
 use Rattle.scope.proofs.Opened.{zeros-length}
 use Rattle.scope.proofs.TakingCells.{Shown}
 use Rattle.scope.proofs.TakingShows.{shown-count}
-use Rattle.scope.proofs.Run.{opened-shown, all-accept, all-none, all-shown}
+use Rattle.scope.proofs.Run.{refused-not, opened-shown, all-accept, all-none, all-shown}
 
 -- ---- offers in a row
 
@@ -93,6 +93,10 @@ module _ (t : Table) (m : Memory) (mode : ℕ) (e : openVerdict t m mode ≡ ver
           room = let c = S .sound .rules .count-fits in omega arith;
         })
 
+    -- its index is its place in the list
+    pub inner-index : held (offeringAll t (opened mode m) xs .left) ≡ length xs
+    inner-index = shown-count last-shown
+
     -- THE NEXT OFFER of a list that passes is refused by 5, 6 or 7, or accepted
     pub inner-offer : (x : ℕ) (ys : List ℕ) → listVerdict (kept mode) (targetOf t) (places m) (xs ++ (x ∷ ys)) ≡ verdict.Accepted
         → offerVerdict t (offeringAll t (opened mode m) xs .left) x ≡ outlineVerdict t (offeringAll t (opened mode m) xs .left) (outlineRows t x)
@@ -141,9 +145,6 @@ module _ (t : Table) (m : Memory) (mode : ℕ) (xs : List ℕ) (o : Output) wher
 
   -- ---- and back
 
-  refused-not : {number index : ℕ} {A : Type 0} → verdict.Refused number index ≡ verdict.Accepted → A
-  refused-not e = let z : _≡_ {A = ℕ} 0 1 = cc in absurd (omega arith)
-
   -- a reading that is no refusal was carried out
   pub reading-accepted : (v : Verdict) (r : Reading) (k : Memory) → verdictOf (reading v r k o .answer) ≡ verdict.Accepted → v ≡ verdict.Accepted
   unfolding verdictOf
@@ -159,6 +160,6 @@ module _ (t : Table) (m : Memory) (mode : ℕ) (xs : List ℕ) (o : Output) wher
       let worked = reading-accepted (done .answer ▷ require (outputFits (view t (done .left)) o) 10 0) (readFrom t (done .left) o) (opened mode m)
       (rw (dissolve-done passed) at e) in
       let agree = first-accepts (require (outputsAgree o) 10 0) _ passed in
-      let opens : openVerdict t m mode ≡ verdict.Accepted = first-accepts _ _ (second-accepts (require (outputsAgree o) 10 0) _ passed) in
-      let offers = first-accepts (done .answer) _ worked in
-      (opens, offers, both-accept _ _ agree (both-accept _ _ (state-sound (last-shown t m mode opens xs offers .sound)) (second-accepts (done .answer) _ worked)))
+      let opening : openVerdict t m mode ≡ verdict.Accepted = first-accepts _ _ (second-accepts (require (outputsAgree o) 10 0) _ passed) in
+      let offering = first-accepts (done .answer) _ worked in
+      (opening, offering, both-accept _ _ agree (both-accept _ _ (state-sound (last-shown t m mode opening xs offering .sound)) (second-accepts (done .answer) _ worked)))

@@ -2,9 +2,10 @@
 -- its rows, links and groups are those of the definition. Dissolve in the same memory counts as the calls it stands for.
 --     opened-shown      an opening begins anew
 --     all-shown         offers in a row that are all accepted
---     call-shown        each call keeps it
---     run-shown         so does a run
---     run-shows         THE DEMAND, from a memory whose lengths fit and a table that passes 1; `run-rules`, `run-lengths`: 9 and 10 are never met
+--     read-leaves       read out leaves the state
+--     call-shown        each call keeps it; `run-shown`: so does a run
+--     run-shows         THE DEMAND, from a memory whose lengths fit and a table that passes 1; `run-rules`, `run-lengths`: it
+--                       never meets 9, nor 10 by its lengths
 -- Assumes nothing.
 use mathlib.Core.Path.{_≡_, refl}
 use mathlib.Core.Bool.{Bool, true, false, cond}
@@ -47,6 +48,9 @@ opened-shown t m mode e l = record {
   shows = opened-shows t m mode;
 }
 
+pub refused-not : {number index : ℕ} {A : Type 0} → verdict.Refused number index ≡ verdict.Accepted → A
+refused-not e = let z : _≡_ {A = ℕ} 0 1 = cc in absurd (omega arith)
+
 module _ (t : Table) where
   -- a call that is carried out or refused
   decided : (v : Verdict) {m₁ m₂ : Memory} {cs₁ cs₂ : List ℕ} → (v ≡ verdict.Accepted → Shown t m₁ cs₁) → Shown t m₂ cs₂
@@ -59,9 +63,6 @@ module _ (t : Table) where
   pub offer-shown : (m : Memory) (cs : List ℕ) (x : ℕ) → Shown t m cs → Shown t (offering t m x .left) (ifAccepted (offering t m x .answer) (cs ++ (x ∷ [])) cs)
   unfolding offering
   offer-shown m cs x S = decided (offerVerdict t m x) (λ e. taken-shown S (offered t m x e)) S
-
-  refused-not : {number index : ℕ} {A : Type 0} → verdict.Refused number index ≡ verdict.Accepted → A
-  refused-not e = let z : _≡_ {A = ℕ} 0 1 = cc in absurd (omega arith)
 
   -- offers in a row that are all accepted: the first, and the rest from where it leaves
   pub all-accept : (m : Memory) (x : ℕ) (xs : List ℕ) → offeringAll t m (x ∷ xs) .answer ≡ verdict.Accepted

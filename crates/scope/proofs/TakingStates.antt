@@ -140,8 +140,8 @@ module _ {t : Table} {m : Memory} {x : ℕ} (O : Offered t m x) where
       go (inr (g, k)) = inr (g, λ i. used-old L f many P (slotOf m a) (slot-used L a g) (Memᴰ·cast (ap (λ (w : ℕ). w - 1) (sym (P .old-slot a k))) i))
 
   -- two places with one root, or a pair that is met
-  abbrev Joined′ : ℕ → ℕ → Type 0
-  Joined′ i j = ((i < suc n) × (j < suc n) × (rootOf (p .parent) i ≡ rootOf (p .parent) j)) ⊎ PairOf t p (pairsMet t m x) i j
+  abbrev OneRootOrMet : ℕ → ℕ → Type 0
+  OneRootOrMet i j = ((i < suc n) × (j < suc n) × (rootOf (p .parent) i ≡ rootOf (p .parent) j)) ⊎ PairOf t p (pairsMet t m x) i j
 
   -- a slot that cancels, whose reverse is in an old slot
   met : (a : ℕ) → Has p a → Has p (reverseOf t a) → List·Memᴰ (slotOf p a) (slotsFor m o) → (List·Memᴰ (slotOf p (reverseOf t a)) (slotsFor m o) → ⊥)
@@ -154,19 +154,19 @@ module _ {t : Table} {m : Memory} {x : ℕ} (O : Offered t m x) where
       (s, met-first t p [] (slotsFor m o) s i c List·Memᴰ·not-nil (λ j. d (Memᴰ·cast (sym mate) j)), refl, ap (at (p .slotCell)) (sym mate))
 
   -- a pair that cancels is met at one of its rows, or both are the new cell's
-  pair-met : (a i j : ℕ) → Has p a → Has p (reverseOf t a) → at (p .slotCell) (slotOf p a) ≡ i → at (p .slotCell) (slotOf p (reverseOf t a)) ≡ j → Chain Joined′ i j
+  pair-met : (a i j : ℕ) → Has p a → Has p (reverseOf t a) → at (p .slotCell) (slotOf p a) ≡ i → at (p .slotCell) (slotOf p (reverseOf t a)) ≡ j → Chain OneRootOrMet i j
   pair-met a i j h k e d = go (slot-where a h) (slot-where (reverseOf t a) k)
     where
       back-row : reverseOf t (reverseOf t a) ≡ a
       back-row = R .rev-rev a (has-in Lp a h)
 
-      ends : {u v : ℕ} → u ≡ i → v ≡ j → Chain Joined′ u v → Chain Joined′ i j
-      ends {u} q r c = subst (λ (w : ℕ). Chain Joined′ w j) q (subst (Chain Joined′ u) r c)
+      ends : {u v : ℕ} → u ≡ i → v ≡ j → Chain OneRootOrMet u v → Chain OneRootOrMet i j
+      ends {u} q r c = subst (λ (w : ℕ). Chain OneRootOrMet w j) q (subst (Chain OneRootOrMet u) r c)
 
       go : (List·Memᴰ (slotOf p a) (slotsFor m o) × (at (p .slotCell) (slotOf p a) ≡ n)) ⊎ (Has m a × (List·Memᴰ (slotOf p a) (slotsFor m o) → ⊥))
           → (List·Memᴰ (slotOf p (reverseOf t a)) (slotsFor m o) × (at (p .slotCell) (slotOf p (reverseOf t a)) ≡ n))
-          ⊎ (Has m (reverseOf t a) × (List·Memᴰ (slotOf p (reverseOf t a)) (slotsFor m o) → ⊥)) → Chain Joined′ i j
-      go (inl u) (inl v) = subst (Chain Joined′ i) (sym e ∙ u .1 ∙ sym (v .1) ∙ d) alone
+          ⊎ (Has m (reverseOf t a) × (List·Memᴰ (slotOf p (reverseOf t a)) (slotsFor m o) → ⊥)) → Chain OneRootOrMet i j
+      go (inl u) (inl v) = subst (Chain OneRootOrMet i) (sym e ∙ u .1 ∙ sym (v .1) ∙ d) alone
       go (inl u) (inr v) = ends e d (pair (inr (met a h k (u .0) (v .1))))
       go (inr u) (inl v) =
           let other = met (reverseOf t a) k (subst (Has p) (sym back-row) h) (v .0) (λ w. u .1 (Memᴰ·cast (ap (slotOf p) (sym back-row)) w)) in
@@ -180,7 +180,7 @@ module _ {t : Table} {m : Memory} {x : ℕ} (O : Offered t m x) where
       plain : Labelled (suc n) (λ i j. (i < suc n) × (j < suc n) × (rootOf (p .parent) i ≡ rootOf (p .parent) j)) (rootOf (p .parent))
       plain = record { sound = λ i j h k e. pair (h, k, e); complete = λ i j e. e .2; pairs-in = λ i j e. (e .0, e .1) }
 
-      to : (i j : ℕ) → Joined′ i j → Chain (Unites t (suc n) (stateOf p)) i j
+      to : (i j : ℕ) → OneRootOrMet i j → Chain (Unites t (suc n) (stateOf p)) i j
       to i j (inl (h, k, e)) = pair (h, k, inl e)
       to i j (inr (s, a, e, d)) =
           let c = met-in t p [] (slotsFor m o) s a .1 in
@@ -192,7 +192,7 @@ module _ {t : Table} {m : Memory} {x : ℕ} (O : Offered t m x) where
             inr (rowIn p s, row-has Lp s u, cancels-has t p s c, ap (at (p .slotCell)) (slot-row Lp s u) ∙ sym e, sym d),
           )
 
-      from : (i j : ℕ) → Unites t (suc n) (stateOf p) i j → Chain Joined′ i j
+      from : (i j : ℕ) → Unites t (suc n) (stateOf p) i j → Chain OneRootOrMet i j
       from i j (h, k, inl e) = pair (inl (h, k, e))
       from i j (h, k, inr (a, g, r, e, d)) = pair-met a i j g r e d
 

@@ -1,0 +1,46 @@
+-- The rules one by one, each over the slices that it reads, are the rules over the whole memory.
+-- Assumes nothing.
+use Prim.Native.Nat.{ℕ, _<_, _≤_}
+use mathlib.Core.Path.{_≡_, refl, sym}
+use mathlib.Core.Bool.{Bool, true, false, _&&_, not}
+use mathlib.Core.List.{List, []}
+use lib.Dec.{leb}
+use lib.Ieee.{Float}
+use lib.ListN.{length, take}
+use borrow.Author.Tests.{leb-true, not-true, not-false}
+use Rattle.scope.specs.Lists.{at, passes}
+use Rattle.scope.specs.Answers.{isAccepted}
+use Rattle.scope.specs.Cells.{resolutionOf}
+use Rattle.scope.specs.Table.{Table, table}
+use Rattle.scope.specs.CellLists.{listVerdict}
+use Rattle.scope.specs.Memory.{Memory, memory}
+use Rattle.scope.specs.Rules.{rowKept, linksKept, slotKept, clearedAt, parentKept, ranksKept, rulesKept}
+use Rattle.scope.proofs.Tests.{and-right}
+use Rattle.rules.specs.Slices.{rows, pool, forest}
+
+pub held-fits : (mode held n : ℕ) → not (leb mode 1 && leb held n) ≡ false → held ≤ n
+held-fits mode held n e = leb-true held n (and-right (leb mode 1) _ (not-false (leb mode 1 && leb held n) e))
+
+module _ (edges reverse : List ℕ) (area : List Float) (head cells parent rank cellMark slotRow slotCell prev next rowSlot rowMark : List ℕ) (mode held : ℕ)
+    (mode-is : mode ≡ at head 0) (held-is : held ≡ at head 1) where
+  abbrev whole : Bool
+  whole = rulesKept (table edges reverse area) (memory head cells parent rank cellMark slotRow slotCell prev next rowSlot rowMark)
+
+  abbrev fits : Bool
+  fits = leb mode 1 && leb held (length cells)
+
+  pub head-fails : not fits ≡ true → false ≡ whole
+  unfolding rulesKept
+  head-fails e = rw (← mode-is, ← held-is, not-true fits e)
+
+  pub one-by-one : not fits ≡ false → {target : ℕ} {a b d f g h k : Bool} → target ≡ resolutionOf (at edges 0)
+      → a ≡ isAccepted (listVerdict mode target held (take held cells))
+      → b ≡ passes (rowKept (rows slotRow rowSlot)) (length rowSlot)
+      → d ≡ passes (slotKept (table edges reverse []) (pool held cells slotRow slotCell prev next rowSlot)) (length slotRow)
+      → f ≡ passes (clearedAt rowMark) (length rowMark) → g ≡ passes (clearedAt cellMark) (length cellMark)
+      → h ≡ passes (parentKept (forest held parent rank)) held → k ≡ ranksKept parent rank held
+      → (a && b && d && (f && g) && h && k) ≡ whole
+  unfolding rulesKept rowKept slotKept linksKept parentKept
+  one-by-one e t p q r u v w x =
+      let head-kept : (leb (at head 0) 1 && leb (at head 1) (length cells)) ≡ true = rw (mode-is, held-is) at (not-false fits e) in
+      rw (p, q, r, u, v, w, x, t, held-is, mode-is, head-kept)

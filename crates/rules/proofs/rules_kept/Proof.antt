@@ -1,0 +1,73 @@
+-- `rules::rules_kept` meets its contract. The rules one by one.
+-- Assumes nothing.
+use borrow.Author.Needs.{needs}
+use mathlib.Core.Path.{_∙_, ap}
+use Rattle.scope.specs.Cells.{resolutionOf}
+use Rattle.rules.proofs.Whole.{held-fits, head-fails, one-by-one}
+use Rattle.rules.proofs.rules_kept.Statement.{statement}
+use Rattle.rules.proofs.rules_kept.Tie as tie
+
+at32-requires : tie.Need-at32-requires
+at32-requires c κs = search needs
+
+at32-requires-2 : tie.Need-at32-requires-2
+at32-requires-2 c κs = search needs
+
+returns : tie.Need-returns
+returns c =
+    let start = c .before .before .before .before .before .before .before .before .before .before .before .before .before .before .before .before .before .args in
+    head-fails (start .edges .now) (start .reverse .now) (start .area .now) _ _ _ _ _ _ _ _ _ _ _ _ _ (c .before .before .at32 .ensures .0) (c .before .at322 .ensures .0)
+    (c .if1 .taken)
+
+at64-requires : tie.Need-at64-requires
+at64-requires c κs = search needs
+
+resolution-requires : tie.Need-resolution-requires
+resolution-requires c κs = search needs
+
+cells-kept-requires : tie.Need-cells-kept-requires
+cells-kept-requires c κs = held-fits (c .before .before .before .before .at32 .result) _ _ (c .before .before .if1 .left)
+
+rows-kept-requires : tie.Need-rows-kept-requires
+rows-kept-requires c κs = search needs
+
+slots-kept-requires : tie.Need-slots-kept-requires
+slots-kept-requires c κs = search needs
+
+all-cleared-requires : tie.Need-all-cleared-requires
+all-cleared-requires c κs = search needs
+
+all-cleared-requires-2 : tie.Need-all-cleared-requires-2
+all-cleared-requires-2 c κs = search needs
+
+parents-kept-requires : tie.Need-parents-kept-requires
+parents-kept-requires c κs = search needs
+
+ranks-kept-requires : tie.Need-ranks-kept-requires
+ranks-kept-requires c κs = c .before .before .before .before .before .before .before .before .before .at322 .ensures .1
+
+returns-2 : tie.Need-returns-2
+returns-2 c =
+    let start = c .before .before .before .before .before .before .before .before .before .before .before .before .before .before .before .before .before .before .before .before .before .before .before .before .before .before .args in
+    let target = c .before .before .before .before .before .before .before .resolution .ensures ∙ ap resolutionOf (c .before .before .before .before .before .before .before .before .at64 .ensures) in
+    one-by-one (start .edges .now) (start .reverse .now) (start .area .now) _ _ _ _ _ _ _ _ _ _ _ _ _ (c .before .before .before .before .before .before .before .before .before .before .before .at32 .ensures .0) (c .before .before .before .before .before .before .before .before .before .before .at322 .ensures .0)
+    (c .before .before .before .before .before .before .before .before .before .if1 .left) target (c .before .before .before .before .before .before .cells-kept .ensures) (c .before .before .before .before .before .rows-kept .ensures) (c .before .before .before .before .slots-kept .ensures) (c .before .before .before .all-cleared .ensures)
+    (c .before .before .all-cleared2 .ensures) (c .before .parents-kept .ensures) (c .ranks-kept .ensures)
+
+pub rules-kept-spec : {M : Type 1} → statement M
+rules-kept-spec =
+    tie.close
+    (tie.spec
+    at32-requires
+    at32-requires-2
+    returns
+    at64-requires
+    resolution-requires
+    cells-kept-requires
+    rows-kept-requires
+    slots-kept-requires
+    all-cleared-requires
+    all-cleared-requires-2
+    parents-kept-requires
+    ranks-kept-requires
+    returns-2)

@@ -1,0 +1,298 @@
+// The state's rules, refusal 9, on any bytes at all: a number that nothing has checked is read as 0 past the end of its
+// slice, as the rules have it.
+ghost use mathlib.Core.Path.{_≡_};
+ghost use mathlib.Core.Bool.{cond};
+ghost use mathlib.Core.List.{List, []};
+ghost use Prim.Native.Nat.{ℕ, _+_, _<_, _≤_, _^_};
+ghost use lib.ListN.{length, take};
+ghost use Rattle.scope.specs.Lists.{at, passes};
+ghost use Rattle.scope.specs.Answers.{isAccepted};
+ghost use Rattle.scope.specs.Table.{table};
+ghost use Rattle.scope.specs.CellLists.{listVerdict};
+ghost use Rattle.scope.specs.Memory.{memory};
+ghost use Rattle.scope.specs.Rules.{rowKept, ownedBy, linkUsed, linksKept, freeKept, usedKept, slotKept, clearedAt, isRoot, parentKept, ranksKept, rulesKept};
+ghost use Rattle.rules.specs.Slices.{rows, links, forest, pool};
+use index::lies_under;
+use index::owner;
+use index::resolution;
+use scope::Verdict;
+use slices::at32;
+use validate::validate;
+
+// The number at place `i`, 0 past the end.
+fn at64(s: &[u64], i: usize) -> u64
+    ensures { λ r. ⌜ r ≡ at (now (s .entry)) i ⌝ }
+{
+    if i < s.len() { s[i] } else { 0 }
+}
+
+// A row's slot number is none or a used slot that holds this row.
+fn row_kept(slot_row: &[u32], row_slot: &[u32], row: usize) -> bool
+    requires { ⌜ row < length (now «row_slot») ⌝ }
+    ensures { λ b. ⌜ b ≡ rowKept (rows (now («slot_row» .entry)) (now («row_slot» .entry))) row ⌝ }
+{
+    let number = at32(row_slot, row);
+    if number == 0 {
+        return true;
+    }
+    (number <= slot_row.len()) & (at32(slot_row, number - 1) == row + 1)
+}
+
+fn rows_kept(slot_row: &[u32], row_slot: &[u32]) -> bool
+    ensures { λ b. ⌜ b ≡ passes (rowKept (rows (now («slot_row» .entry)) (now («row_slot» .entry)))) (length (now («row_slot» .entry))) ⌝ }
+{
+    let mut row: usize = 0;
+    while row < row_slot.len() {
+        if !row_kept(slot_row, row_slot, row) {
+            return false;
+        }
+        row += 1;
+    }
+    true
+}
+
+// The edge's owner is the cell or lies under it.
+fn owned_by(edge: u64, cell: u64) -> bool
+    ensures { λ b. ⌜ b ≡ ownedBy edge cell ⌝ }
+{
+    let cell_of_edge = owner(edge);
+    (cell_of_edge == cell) | lies_under(cell_of_edge, cell)
+}
+
+fn link_used(slot_row: &[u32], slot: usize) -> bool
+    ensures { λ b. ⌜ b ≡ linkUsed (links (now («slot_row» .entry)) [] [] []) slot ⌝ }
+{
+    (slot < slot_row.len()) & (at32(slot_row, slot) != 0)
+}
+
+// Previous and next are used and inverse to each other.
+fn links_kept(slot_row: &[u32], prev: &[u32], next: &[u32], slot: usize) -> bool
+    ensures { λ b. ⌜ b ≡ linksKept (links (now («slot_row» .entry)) [] (now (prev .entry)) (now (next .entry))) slot ⌝ }
+{
+    let before = at32(prev, slot);
+    let after = at32(next, slot);
+    link_used(slot_row, before)
+        & link_used(slot_row, after)
+        & (at32(next, before) == slot)
+        & (at32(prev, after) == slot)
+}
+
+// Free slots are cleared.
+fn free_kept(slot_cell: &[u32], prev: &[u32], next: &[u32], slot: usize) -> bool
+    ensures { λ b. ⌜ b ≡ freeKept (links [] (now («slot_cell» .entry)) (now (prev .entry)) (now (next .entry))) slot ⌝ }
+{
+    (at32(slot_cell, slot) == 0) & (at32(prev, slot) == 0) & (at32(next, slot) == 0)
+}
+
+// A used slot has its row in range, that row points back to it, its cell number is held and the row's owner is that cell
+// or lies under it, its links are kept, and its row's reverse is not held.
+fn used_kept(
+    edges: &[u64],
+    reverse: &[u32],
+    cells: &[u64],
+    slot_row: &[u32],
+    slot_cell: &[u32],
+    prev: &[u32],
+    next: &[u32],
+    row_slot: &[u32],
+    held: usize,
+    slot: usize,
+) -> bool
+    requires { ⌜ (slot < length (now «slot_row»)) × (0 < at (now «slot_row») slot) ⌝ }
+    ensures { λ b. ⌜ b ≡ usedKept (table (now (edges .entry)) (now (reverse .entry)) []) (pool held (now (cells .entry)) (now («slot_row» .entry)) (now («slot_cell» .entry)) (now (prev .entry)) (now (next .entry)) (now («row_slot» .entry))) slot ⌝ }
+{
+    let number = at32(slot_row, slot);
+    let row = number - 1;
+    let place = at32(slot_cell, slot);
+    let back = at32(reverse, row);
+    (number <= edges.len())
+        & (at32(row_slot, row) == slot + 1)
+        & ((place < held) & owned_by(at64(edges, row), at64(cells, place)))
+        & links_kept(slot_row, prev, next, slot)
+        & (at32(row_slot, back) == 0)
+}
+
+fn slot_kept(
+    edges: &[u64],
+    reverse: &[u32],
+    cells: &[u64],
+    slot_row: &[u32],
+    slot_cell: &[u32],
+    prev: &[u32],
+    next: &[u32],
+    row_slot: &[u32],
+    held: usize,
+    slot: usize,
+) -> bool
+    requires { ⌜ slot < length (now «slot_row») ⌝ }
+    ensures { λ b. ⌜ b ≡ slotKept (table (now (edges .entry)) (now (reverse .entry)) []) (pool held (now (cells .entry)) (now («slot_row» .entry)) (now («slot_cell» .entry)) (now (prev .entry)) (now (next .entry)) (now («row_slot» .entry))) slot ⌝ }
+{
+    if at32(slot_row, slot) == 0 {
+        return free_kept(slot_cell, prev, next, slot);
+    }
+    used_kept(
+        edges,
+        reverse,
+        cells,
+        slot_row,
+        slot_cell,
+        prev,
+        next,
+        row_slot,
+        held,
+        slot,
+    )
+}
+
+fn slots_kept(
+    edges: &[u64],
+    reverse: &[u32],
+    cells: &[u64],
+    slot_row: &[u32],
+    slot_cell: &[u32],
+    prev: &[u32],
+    next: &[u32],
+    row_slot: &[u32],
+    held: usize,
+) -> bool
+    ensures { λ b. ⌜ b ≡ passes (slotKept (table (now (edges .entry)) (now (reverse .entry)) []) (pool held (now (cells .entry)) (now («slot_row» .entry)) (now («slot_cell» .entry)) (now (prev .entry)) (now (next .entry)) (now («row_slot» .entry)))) (length (now («slot_row» .entry))) ⌝ }
+{
+    let mut slot: usize = 0;
+    while slot < slot_row.len() {
+        if !slot_kept(
+            edges,
+            reverse,
+            cells,
+            slot_row,
+            slot_cell,
+            prev,
+            next,
+            row_slot,
+            held,
+            slot,
+        ) {
+            return false;
+        }
+        slot += 1;
+    }
+    true
+}
+
+// Marks are cleared.
+fn all_cleared(marks: &[u32]) -> bool
+    ensures { λ b. ⌜ b ≡ passes (clearedAt (now (marks .entry))) (length (now (marks .entry))) ⌝ }
+{
+    let mut i: usize = 0;
+    while i < marks.len() {
+        if marks[i] != 0 {
+            return false;
+        }
+        i += 1;
+    }
+    true
+}
+
+// Each parent is held, and is itself or has a higher rank.
+fn parent_kept(parent: &[u32], rank: &[u32], held: usize, place: usize) -> bool
+    ensures { λ b. ⌜ b ≡ parentKept (forest held (now (parent .entry)) (now (rank .entry))) place ⌝ }
+{
+    let above = at32(parent, place);
+    (above < held) & ((above == place) | (at32(rank, place) < at32(rank, above)))
+}
+
+fn parents_kept(parent: &[u32], rank: &[u32], held: usize) -> bool
+    ensures { λ b. ⌜ b ≡ passes (parentKept (forest held (now (parent .entry)) (now (rank .entry)))) held ⌝ }
+{
+    let mut place: usize = 0;
+    while place < held {
+        if !parent_kept(parent, rank, held, place) {
+            return false;
+        }
+        place += 1;
+    }
+    true
+}
+
+// One for a root, else none.
+fn root_at(parent: &[u32], place: usize) -> usize
+    ensures { λ r. ⌜ r ≡ cond (isRoot (now (parent .entry)) place) 1 0 ⌝ }
+{
+    if at32(parent, place) == place { 1 } else { 0 }
+}
+
+// The ranks add up to no more than the held cells less the roots. Held cells fit 32 bits, so the sums fit 64.
+fn ranks_kept(parent: &[u32], rank: &[u32], held: usize) -> bool
+    requires { ⌜ held < 2 ^ 32 ⌝ }
+    ensures { λ b. ⌜ b ≡ ranksKept (now (parent .entry)) (now (rank .entry)) held ⌝ }
+{
+    let mut ranks: usize = 0;
+    let mut roots: usize = 0;
+    let mut place: usize = 0;
+    while place < held {
+        ranks += at32(rank, place);
+        roots += root_at(parent, place);
+        place += 1;
+    }
+    ranks + roots <= held
+}
+
+fn is_accepted(verdict: Verdict) -> bool
+    ensures { λ b. ⌜ b ≡ isAccepted verdict ⌝ }
+{
+    match verdict {
+        Verdict::Accepted => true,
+        Verdict::Refused(_, _) => false,
+    }
+}
+
+// Held cells pass 2, 3 and 4.
+fn cells_kept(cells: &[u64], mode: usize, target: usize, held: usize) -> bool
+    requires { ⌜ held ≤ length (now cells) ⌝ }
+    ensures { λ b. ⌜ b ≡ isAccepted (listVerdict mode target held (take held (now (cells .entry)))) ⌝ }
+{
+    is_accepted(validate(&cells[..held], mode, target, held))
+}
+
+// The state breaks no rule: the table's three slices, and the state's eleven.
+pub fn rules_kept(
+    edges: &[u64],
+    reverse: &[u32],
+    area: &[f64],
+    head: &[u32],
+    cells: &[u64],
+    parent: &[u32],
+    rank: &[u32],
+    cell_mark: &[u32],
+    slot_row: &[u32],
+    slot_cell: &[u32],
+    prev: &[u32],
+    next: &[u32],
+    row_slot: &[u32],
+    row_mark: &[u32],
+) -> bool
+    ensures { λ b. ⌜ b ≡ rulesKept (table (now (edges .entry)) (now (reverse .entry)) (now (area .entry))) (memory (now (head .entry)) (now (cells .entry)) (now (parent .entry)) (now (rank .entry)) (now («cell_mark» .entry)) (now («slot_row» .entry)) (now («slot_cell» .entry)) (now (prev .entry)) (now (next .entry)) (now («row_slot» .entry)) (now («row_mark» .entry))) ⌝ }
+{
+    let mode = at32(head, 0);
+    let held = at32(head, 1);
+    let fits = (mode <= 1) & (held <= cells.len());
+    if !fits {
+        return false;
+    }
+    let target = resolution(at64(edges, 0));
+    cells_kept(cells, mode, target, held)
+        & rows_kept(slot_row, row_slot)
+        & slots_kept(
+            edges,
+            reverse,
+            cells,
+            slot_row,
+            slot_cell,
+            prev,
+            next,
+            row_slot,
+            held,
+        )
+        & (all_cleared(row_mark) & all_cleared(cell_mark))
+        & parents_kept(parent, rank, held)
+        & ranks_kept(parent, rank, held)
+}

@@ -102,12 +102,12 @@ pub fn validate_heterogeneous(cells: &[u64], target: usize, capacity: usize) -> 
 fn is_unheld(held: &[u64], x: u64) -> bool
     ensures { λ b. ⌜ b ≡ passes (differs (now (held .entry)) x) (length (now (held .entry))) ⌝ }
 {
-    let mut i: usize = 0;
-    while i < held.len() {
-        if held[i] == x {
+    let mut other: usize = 0;
+    while other < held.len() {
+        if held[other] == x {
             return false;
         }
-        i += 1;
+        other += 1;
     }
     true
 }
@@ -116,12 +116,12 @@ fn is_unheld(held: &[u64], x: u64) -> bool
 fn lies_under_none(held: &[u64], x: u64) -> bool
     ensures { λ b. ⌜ b ≡ passes (notUnder (now (held .entry)) x) (length (now (held .entry))) ⌝ }
 {
-    let mut i: usize = 0;
-    while i < held.len() {
-        if lies_under(x, held[i]) {
+    let mut over: usize = 0;
+    while over < held.len() {
+        if lies_under(x, held[over]) {
             return false;
         }
-        i += 1;
+        over += 1;
     }
     true
 }
@@ -130,14 +130,14 @@ fn lies_under_none(held: &[u64], x: u64) -> bool
 fn first_under(held: &[u64], x: u64) -> usize
     ensures { λ r. ⌜ r ≡ firstBad (notOver (now (held .entry)) x) (length (now (held .entry))) ⌝ }
 {
-    let mut i: usize = 0;
-    while i < held.len() {
-        if lies_under(held[i], x) {
-            return i;
+    let mut under: usize = 0;
+    while under < held.len() {
+        if lies_under(held[under], x) {
+            return under;
         }
-        i += 1;
+        under += 1;
     }
-    i
+    under
 }
 
 // One cell against the held ones, in linear time.

@@ -13,10 +13,10 @@ use Rattle.validate.proofs.is_unheld.Statement.{statement}
 use Rattle.validate.proofs.is_unheld.Tie as tie
 
 abbrev Inv-loop : tie.InvT-loop
-Inv-loop held x i₀ i = Going (differs held x) (length held) i
+Inv-loop held x other₀ other = Going (differs held x) (length held) other
 
 abbrev μ-loop : tie.MeasureT-loop
-μ-loop held x i₀ i = length held - i
+μ-loop held x other₀ other = length held - other
 
 loop-holds : tie.Need-loop-holds Inv-loop μ-loop
 loop-holds c = going-start
@@ -30,8 +30,8 @@ shared-slice-read-if1 c = omega arith
 returns : tie.Need-returns Inv-loop μ-loop
 returns c = going-false (c .before .before .before .loop .inv) (c .before .before .loop-test .taken) (ap not (eq-eqb _ _ (c .if1 .taken)))
 
-add-i : tie.Need-add-i Inv-loop μ-loop
-add-i c = omega arith
+add-other : tie.Need-add-other Inv-loop μ-loop
+add-other c = omega arith
 
 loop-less : tie.Need-loop-less Inv-loop μ-loop
 loop-less c = omega arith
@@ -52,7 +52,7 @@ is-unheld-spec =
     mul-if1
     shared-slice-read-if1
     returns
-    add-i
+    add-other
     loop-less
     loop-again
     returns-2)

@@ -12,10 +12,10 @@ use Rattle.validate.proofs.lies_under_none.Statement.{statement}
 use Rattle.validate.proofs.lies_under_none.Tie as tie
 
 abbrev Inv-loop : tie.InvT-loop
-Inv-loop held x i₀ i = Going (notUnder held x) (length held) i
+Inv-loop held x over₀ over = Going (notUnder held x) (length held) over
 
 abbrev μ-loop : tie.MeasureT-loop
-μ-loop held x i₀ i = length held - i
+μ-loop held x over₀ over = length held - over
 
 loop-holds : tie.Need-loop-holds Inv-loop μ-loop
 loop-holds c = going-start
@@ -32,8 +32,8 @@ lies-under-requires c κs = tt
 returns : tie.Need-returns Inv-loop μ-loop
 returns c = going-false (c .before .before .before .before .loop .inv) (c .before .before .before .loop-test .taken) (ap not (sym (c .before .lies-under .ensures) ∙ c .if1 .taken))
 
-add-i : tie.Need-add-i Inv-loop μ-loop
-add-i c = omega arith
+add-over : tie.Need-add-over Inv-loop μ-loop
+add-over c = omega arith
 
 loop-less : tie.Need-loop-less Inv-loop μ-loop
 loop-less c = omega arith
@@ -55,7 +55,7 @@ lies-under-none-spec =
     shared-slice-read-lies-under
     lies-under-requires
     returns
-    add-i
+    add-over
     loop-less
     loop-again
     returns-2)

@@ -6,7 +6,7 @@ use Prim.Native.Nat.{_-_}
 use lib.ListN.{length}
 use Rattle.scope.specs.CellLists.{resolutionFitsAt}
 use Rattle.scope.proofs.Scan.{Going, going-start, going-more, going-stop, going-done}
-use Rattle.scope.proofs.Tests.{holds, fails}
+use Rattle.scope.proofs.Tests.{fails, holds}
 use Rattle.validate.proofs.unfit_cell.Statement.{statement}
 use Rattle.validate.proofs.unfit_cell.Tie as tie
 

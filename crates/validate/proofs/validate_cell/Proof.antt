@@ -5,7 +5,7 @@ use native.Mathlib.Numerals.{add-one}
 use borrow.Author.Tests.{eq-eqb, ne-eqb, lt-ltb, le-ltb}
 use Rattle.scope.specs.CellLists.{cellVerdict}
 use Rattle.scope.specs.Lists.{at}
-use Rattle.scope.proofs.Tests.{holds, fails}
+use Rattle.scope.proofs.Tests.{fails, holds}
 use Rattle.validate.proofs.validate_cell.Statement.{statement}
 use Rattle.validate.proofs.validate_cell.Tie as tie
 

@@ -26,7 +26,9 @@ add-mid : tie.Need-add-mid Inv-loop μ-loop
 add-mid c = omega arith
 
 key-below-requires : tie.Need-key-below-requires Inv-loop μ-loop
-key-below-requires c κs = record { room = c .before .before .before .before .pre .room; here = omega arith; index = c .before .before .before .before .pre .below (c .before .loop .lo + (c .before .loop .hi - c .before .loop .lo) / 2) (omega arith) }
+key-below-requires c κs =
+    let loop = c .before .loop in
+    record { room = c .before .before .before .before .pre .room; here = omega arith; index = c .before .before .before .before .pre .below (loop .lo + (loop .hi - loop .lo) / 2) (omega arith) }
 
 add-lo : tie.Need-add-lo Inv-loop μ-loop
 add-lo c = omega arith

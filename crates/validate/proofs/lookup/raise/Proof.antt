@@ -2,6 +2,7 @@
 -- Assumes nothing.
 use native.Mathlib.Omega.{arith}
 use Prim.Native.Nat.{_-_}
+use Rattle.validate.specs.Sorting.{place}
 use Rattle.validate.proofs.Raising.{Raising, raising-start, raising-index, raising-more, raising-done}
 use Rattle.validate.proofs.lookup.raise.Statement.{statement}
 use Rattle.validate.proofs.lookup.raise.Tie as tie
@@ -20,26 +21,29 @@ sub-p c = omega arith
 
 top-over-requires : tie.Need-top-over-requires Inv-loop μ-loop
 top-over-requires c κs =
+    let place = c .before .before .loop .p - 1 in
     let inv = c .before .before .loop .inv in
     let perm = c .before .before .before .before .before .pre .sorted .perm in
     record {
       room = omega (arith, inv .size, perm .room);
       here = omega (arith, inv .left);
-      index = rw (inv .kept (c .before .before .loop .p - 1) (omega arith)) (perm .below (c .before .before .loop .p - 1) (omega (arith, inv .left)));
+      index = rw (inv .kept place (omega arith)) (perm .below place (omega (arith, inv .left)));
     }
 
 put32-requires : tie.Need-put32-requires Inv-loop μ-loop
 put32-requires c κs =
     let inv = c .before .before .before .before .loop .inv in
-    let index = raising-index (c .before .before .before .before .loop .p - 1) (c .before .before .before .before .loop .p) (c .before .before .before .before .before .before .before .pre) inv (omega arith) (c .before .top-over .ensures) in
-    (omega (arith, inv .left, inv .size, c .before .before .before .before .before .before .before .pre .sorted .perm .room), omega (arith, c .before .before .before .before .before .before .before .pre .few))
+    let pre = c .before .before .before .before .before .before .before .pre in
+    let index = raising-index (c .before .before .before .before .loop .p - 1) (c .before .before .before .before .loop .p) pre inv (omega arith) (c .before .top-over .ensures) in
+    (omega (arith, inv .left, inv .size, pre .sorted .perm .room), omega (arith, pre .few))
 
 loop-less : tie.Need-loop-less Inv-loop μ-loop
 loop-less c = omega arith
 
 loop-again : tie.Need-loop-again Inv-loop μ-loop
 loop-again c =
-    raising-more (c .before .before .before .before .before .before .before .loop .p - 1) (c .before .before .before .before .before .before .before .loop .p) (c .before .before .before .before .before .before .before .before .before .before .pre) (c .before .before .before .before .before .before .before .loop .inv) (omega arith) (c .before .before .before .before .top-over .ensures) (c .before .before .put32 .ensures)
+    let loop = c .before .before .before .before .before .before .before .loop in
+    raising-more (loop .p - 1) (loop .p) (c .before .before .before .before .before .before .before .before .before .before .pre) (loop .inv) (omega arith) (c .before .before .before .before .top-over .ensures) (c .before .before .put32 .ensures)
 
 same-length : tie.Need-same-length Inv-loop μ-loop
 same-length c = c .before .loop .inv .size

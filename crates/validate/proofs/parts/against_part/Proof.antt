@@ -29,7 +29,9 @@ slice-aggregate-second-against : tie.Need-slice-aggregate-second-against
 slice-aggregate-second-against c = search needs
 
 second-against-requires : tie.Need-second-against-requires
-second-against-requires c κs = record { ordered = part-ordered _ _ _ (c .before .before .before .before .before .before .pre) (c .before .before .sort .ensures); valid = c .before .before .before .before .before .before .pre .valid; within = omega (arith, c .before .before .before .before .before .before .pre .order, c .before .before .before .before .before .before .pre .within) }
+second-against-requires c κs =
+    let pre = c .before .before .before .before .before .before .pre in
+    record { ordered = part-ordered _ _ _ pre (c .before .before .sort .ensures); valid = pre .valid; within = omega (arith, pre .order, pre .within) }
 
 returns : tie.Need-returns
 returns c = against-even _ _ _ (c .before .before .before .before .before .before .before .before .pre) (c .before .second-against .ensures) (c .if1 .taken)

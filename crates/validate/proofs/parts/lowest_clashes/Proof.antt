@@ -42,8 +42,10 @@ loop-again c =
 
 returns : tie.Need-returns Inv-loop μ-loop
 returns c =
-    let e : c .before .loop .done ≡ length (c .before .before .before .args .cells .now) = omega arith in
-    subst (λ (k : ℕ). Found (c .before .before .before .args .cells .now) k (c .before .before .before .args .mixed) (c .before .loop .second) (c .before .loop .nested)) e (c .before .loop .inv .1)
+    let start = c .before .before .before .args in
+    let loop = c .before .loop in
+    let e : loop .done ≡ length (start .cells .now) = omega arith in
+    subst (λ (k : ℕ). Found (start .cells .now) k (start .mixed) (loop .second) (loop .nested)) e (loop .inv .1)
 
 pub lowest-clashes-spec : {M : Type 1} → statement M
 lowest-clashes-spec =

@@ -5,7 +5,7 @@ use borrow.Author.Needs.{needs}
 use Prim.Native.Nat.{_-_}
 use lib.ListN.{length}
 use Rattle.scope.proofs.Scan.{Going, going-start, going-more, going-stop, going-done}
-use Rattle.scope.proofs.Tests.{holds, fails}
+use Rattle.scope.proofs.Tests.{fails, holds}
 use Rattle.validate.specs.Parts.{clearAgainst}
 use Rattle.validate.proofs.parts.nested_against.Statement.{statement}
 use Rattle.validate.proofs.parts.nested_against.Tie as tie

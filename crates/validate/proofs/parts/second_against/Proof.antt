@@ -6,7 +6,7 @@ use Prim.Native.Nat.{_-_, _≤_}
 use lib.ListN.{length}
 use Rattle.scope.specs.Order.{ordered}
 use Rattle.scope.proofs.Scan.{Going, going-more, going-stop, going-done}
-use Rattle.scope.proofs.Tests.{holds, fails}
+use Rattle.scope.proofs.Tests.{fails, holds}
 use Rattle.validate.specs.Parts.{newAgainst}
 use Rattle.validate.proofs.Joining.{from-part}
 use Rattle.validate.proofs.parts.second_against.Statement.{statement}
@@ -19,7 +19,9 @@ abbrev μ-loop : tie.MeasureT-loop
 μ-loop order part cells start i₀ i = length cells - i
 
 loop-holds : tie.Need-loop-holds Inv-loop μ-loop
-loop-holds c = (omega arith, from-part (c .before .before .before .args .part .now) (c .before .before .before .args .cells .now) (c .before .before .before .args .start) (c .before .before .before .pre .within))
+loop-holds c =
+    let start = c .before .before .before in
+    (omega arith, from-part (start .args .part .now) (start .args .cells .now) (start .args .start) (start .pre .within))
 
 mul-is-new : tie.Need-mul-is-new Inv-loop μ-loop
 mul-is-new c = search needs

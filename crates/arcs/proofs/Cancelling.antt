@@ -48,6 +48,8 @@ pub record Cancelling (t : Table) (m : Memory) (n : ℕ) (ss l rest : List ℕ) 
   pub united : unitePairs t m (metFirst t m l rest) (record { parents = m′ .parent; ranks = m′ .rank }) ≡ unions t m ss
   pub count : pairs + length (metFirst t m l rest) ≡ length (metFirst t m [] ss)
   pub forest : Forest (m′ .parent) (m′ .rank) n
+  pub long-parent : length (m′ .parent) ≡ length (m .parent)
+  pub long-rank : length (m′ .rank) ≡ length (m .rank)
   pub long-row : slots m′ ≡ slots m
   pub long-cell : length (m′ .slotCell) ≡ slots m
   pub long-prev : length (m′ .prev) ≡ slots m
@@ -83,6 +85,8 @@ module _ {t : Table} {m : Memory} {n : ℕ} {o : List ℕ} (A : CancelAsks t m n
     united = refl;
     count = omega arith;
     forest = A .forest;
+    long-parent = refl;
+    long-rank = refl;
     long-row = refl;
     long-cell = A .even-cell;
     long-prev = A .even-prev;

@@ -11,3 +11,5 @@ pub mod After
 pub mod Cancelling
 pub mod Skipping
 pub mod Pairing
+pub mod Cancelled
+pub mod RowsMet

@@ -25,7 +25,7 @@ use Rattle.arcs.proofs.Pair.{Less₂, Mates, Removed, pair-removed, pai
 use Rattle.arcs.proofs.After.{after-pair, after-same, round-same}
 use Rattle.arcs.proofs.Gone.{gone, gone-from, gone-mate, gone-else, gone-first, gone-second}
 use Rattle.arcs.proofs.Cancelling.{Left, unlessGone, unions, Cancelling}
-use Rattle.arcs.proofs.Skipping.{met-pair, kept, mate-is}
+use Rattle.arcs.proofs.Skipping.{met-pair, kept, none, mate-is}
 
 -- ---- two places cleared
 
@@ -171,12 +171,6 @@ module _ {t : Table} {m : Memory} {n : ℕ} {o : List ℕ} (A : CancelAsks t m n
       (λ h. ap (λ (b : Bool). cond b 0 (at (m .rowSlot) r)) (sym (others (slotOf m r)
       (λ q. nr (sym (row-slot (A .linked) r h) ∙ ap (rowIn m) q ∙ row-slot (A .linked) row has))
       (λ q. nb (sym (row-slot (A .linked) r h) ∙ ap (rowIn m) q ∙ row-slot (A .linked) back (back-kept .1))))))
-    where
-      none : (a b : Bool) (v : ℕ) → v ≡ 0 → cond a 0 v ≡ cond b 0 v
-      none true true v e = refl
-      none true false v e = sym e
-      none false true v e = e
-      none false false v e = refl
 
   removed : Removed (Left t m l) (reverseSlot t m) (at (m′ .next)) x y (at (pairNext (m′ .next) (m′ .prev) x y)) (at (pairPrev (m′ .next) (m′ .prev) x y))
   removed = pair-removed (m′ .next) (m′ .prev) (C .round) (λ a u. rw (C .long-next) (left-low a u)) (λ a u. rw (C .long-prev) (left-low a u)) x-left y-left mates
@@ -232,6 +226,8 @@ module _ {t : Table} {m : Memory} {n : ℕ} {o : List ℕ} (A : CancelAsks t m n
         united = sym (united-on m″ joined) ∙ C .united;
         count = let c = C .count in let f = ap length is-first in omega arith;
         forest = D .forest;
+        long-parent = D .long-parent ∙ C .long-parent;
+        long-rank = D .long-rank ∙ C .long-rank;
         long-row = rw (rows, clear-length) (C .long-row);
         long-cell = rw (cells, clear-length) (C .long-cell);
         long-prev = rw (prevs, clear-length) (pair-length (m′ .next) (m′ .prev) x y .1 ∙ C .long-prev);

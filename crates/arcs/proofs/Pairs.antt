@@ -43,13 +43,16 @@ module _ {m : Memory} {n row back : ℕ} (A : PairAsks m n row back) (a b : ℕ)
     pub union-asks : UnionAsks (m .parent) (m .rank) n cx cy
     union-asks = record { forest = A .forest; a-held = rw cx-is (A .row-cell); b-held = rw cy-is (A .back-cell); fits = A .cells-fit }
 
-    pub pair-done : (p q : List ℕ) (m′ : Memory) → Joined (m .parent) (m .rank) n cx cy (m′ .parent) (m′ .rank)
+    pub pair-done : (p q : List ℕ) (m′ : Memory) → length (m′ .parent) ≡ length (m .parent) → length (m′ .rank) ≡ length (m .rank)
+        → Joined (m .parent) (m .rank) n cx cy (m′ .parent) (m′ .rank)
         → q ≡ pairNext (m .next) (m .prev) (a - 1) (b - 1) → p ≡ pairPrev (m .next) (m .prev) (a - 1) (b - 1)
         → Freed (pool [] [] (m .slotRow) (m .slotCell) p q (m .rowSlot)) (a - 1) (b - 1) row back
         (pool [] [] (m′ .slotRow) (m′ .slotCell) (m′ .prev) (m′ .next) (m′ .rowSlot)) → PairCancelled m n row back m′
-    pair-done p q m′ J eq ep F = record {
+    pair-done p q m′ lp lr J eq ep F = record {
       united = J .left ∙ rw (cx-is, cy-is);
       forest = J .keeps;
+      long-parent = lp;
+      long-rank = lr;
       slot-row = F .slot-row ∙ rw (x-is, y-is);
       slot-cell = F .slot-cell ∙ rw (x-is, y-is);
       prev = F .prev ∙ rw (ep, x-is, y-is);

@@ -1,6 +1,7 @@
 -- A turn of `cancel_rows` at a row whose reverse has no slot: nothing changes.
 --     met-skip, met-pair     the next of the slots met first, or not
---     row-state              what is known of the row's slot
+--     kept, none             a number cleared or not
+--     mate-is, mate-has      the slot of the reverse
 --     cancelling-skip        the turn
 -- Assumes nothing.
 use mathlib.Core.Path.{_≡_, refl, sym, _∙_, ap, subst}
@@ -52,6 +53,13 @@ pub kept : (b : Bool) (v : ℕ) → cond b 0 v ≢ 0 → (b ≡ false) × (v ≢
 kept true v n = absurd (n refl)
 kept false v n = (refl, n)
 
+-- a 0 is the same, cleared or not
+pub none : (a b : Bool) (v : ℕ) → v ≡ 0 → cond a 0 v ≡ cond b 0 v
+none true true v e = refl
+none true false v e = sym e
+none false true v e = e
+none false false v e = refl
+
 module _ {t : Table} {m : Memory} (L : Linked t m) (row : ℕ) (has : Has m row) where
   -- the slot that holds the reverse is the slot of the row's reverse
   pub mate-is : reverseSlot t m (slotOf m row) ≡ slotOf m (reverseOf t row)
@@ -98,6 +106,8 @@ module _ {t : Table} {m : Memory} {n : ℕ} {o : List ℕ} (A : CancelAsks t m n
     united = rw (← not-first) (C .united);
     count = rw (← not-first) (C .count);
     forest = C .forest;
+    long-parent = C .long-parent;
+    long-rank = C .long-rank;
     long-row = C .long-row;
     long-cell = C .long-cell;
     long-prev = C .long-prev;

@@ -93,6 +93,8 @@ pub record PairCancelled (m : Memory) (n row back : ℕ) (m′ : Memory) : Type 
   pub united : record { parents = m′ .parent; ranks = m′ .rank }
       ≡ uniting (m .parent) (m .rank) (at (m .slotCell) (slotOf m row)) (at (m .slotCell) (slotOf m back))
   pub forest : Forest (m′ .parent) (m′ .rank) n
+  pub long-parent : length (m′ .parent) ≡ length (m .parent)
+  pub long-rank : length (m′ .rank) ≡ length (m .rank)
   pub slot-row : m′ .slotRow ≡ clearTwo (m .slotRow) (slotOf m row) (slotOf m back)
   pub slot-cell : m′ .slotCell ≡ clearTwo (m .slotCell) (slotOf m row) (slotOf m back)
   pub prev : m′ .prev ≡ clearTwo (pairPrev (m .next) (m .prev) (slotOf m row) (slotOf m back)) (slotOf m row) (slotOf m back)

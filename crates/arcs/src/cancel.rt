@@ -7,6 +7,7 @@ ghost use mathlib.Core.List.{[]};
 ghost use Prim.Native.Nat.{_<_};
 ghost use lib.ListN.{length};
 ghost use Rattle.arcs.specs.Cancel.{swapNext, swapPrev, dropNext, dropPrev, pairNext, pairPrev, clearTwo, Closed, pool, PairAsks, FreeAsks, Freed, PairCancelled};
+ghost use Rattle.arcs.specs.CancelRows.{reverses, RowAsks, RowCancelled, CancelAsks, RowsCancelled};
 
 // Clears the numbers at two places.
 fn clear_two(s: &mut [u32], x: usize, y: usize)
@@ -98,4 +99,76 @@ fn cancel_pair(
     union(parent, rank, held, cell_x, cell_y);
     merge_arcs(prev, next, x, y);
     free_pair(slot_row, slot_cell, prev, next, row_slot, x, y, row, back);
+}
+
+// The edge of `row` cancels where its reverse has a slot. Answers the number of pairs: 0 or 1.
+fn cancel_row(
+    reverse: &[u32],
+    parent: &mut [u32],
+    rank: &mut [u32],
+    slot_row: &mut [u32],
+    slot_cell: &mut [u32],
+    prev: &mut [u32],
+    next: &mut [u32],
+    row_slot: &mut [u32],
+    held: usize,
+    row: usize,
+) -> usize
+    requires { ⌜ RowAsks (now reverse) (pool (now parent) (now rank) (now «slot_row») (now «slot_cell») (now prev) (now next) (now «row_slot»)) held row ⌝ }
+    ensures { λ r. ⌜ RowCancelled (now (reverse .entry)) (pool (now (parent .entry)) (now (rank .entry)) (now («slot_row» .entry)) (now («slot_cell» .entry)) (now (prev .entry)) (now (next .entry)) (now («row_slot» .entry))) held row r (pool (now (parent .exit)) (now (rank .exit)) (now («slot_row» .exit)) (now («slot_cell» .exit)) (now (prev .exit)) (now (next .exit)) (now («row_slot» .exit))) ⌝ }
+{
+    let back = get32(reverse, row);
+    if get32(row_slot, back) == 0 {
+        return 0;
+    }
+    cancel_pair(
+        parent,
+        rank,
+        slot_row,
+        slot_cell,
+        prev,
+        next,
+        row_slot,
+        held,
+        row,
+        back,
+    );
+    1
+}
+
+// The pairs of a placed outline cancel, in walk order. Answers how many did.
+pub fn cancel_rows(
+    reverse: &[u32],
+    parent: &mut [u32],
+    rank: &mut [u32],
+    slot_row: &mut [u32],
+    slot_cell: &mut [u32],
+    prev: &mut [u32],
+    next: &mut [u32],
+    row_slot: &mut [u32],
+    rows: &[u32],
+    held: usize,
+) -> usize
+    requires { ⌜ CancelAsks (reverses (now reverse)) (pool (now parent) (now rank) (now «slot_row») (now «slot_cell») (now prev) (now next) (now «row_slot»)) held (now rows) ⌝ }
+    ensures { λ r. ⌜ RowsCancelled (reverses (now (reverse .entry))) (pool (now (parent .entry)) (now (rank .entry)) (now («slot_row» .entry)) (now («slot_cell» .entry)) (now (prev .entry)) (now (next .entry)) (now («row_slot» .entry))) held (now (rows .entry)) r (pool (now (parent .exit)) (now (rank .exit)) (now («slot_row» .exit)) (now («slot_cell» .exit)) (now (prev .exit)) (now (next .exit)) (now («row_slot» .exit))) ⌝ }
+{
+    let mut pairs = 0;
+    let mut i = 0;
+    while i < rows.len() {
+        let row = get32(rows, i);
+        pairs += cancel_row(
+            reverse,
+            parent,
+            rank,
+            slot_row,
+            slot_cell,
+            prev,
+            next,
+            row_slot,
+            held,
+            row,
+        );
+        i += 1;
+    }
+    pairs
 }

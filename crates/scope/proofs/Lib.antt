@@ -48,6 +48,7 @@ pub mod Cancelling
 pub mod Seven
 pub mod Odd
 pub mod Mixed
+pub mod Polygons
 pub mod Computing
 pub mod ExampleKinds
 pub mod ExampleTest

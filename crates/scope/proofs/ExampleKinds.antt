@@ -82,9 +82,12 @@ abbrev pub put : Slice → ℕ → ℕ → Change
 put slice place value = record { slice = slice; place = place; value = value }
 
 pub data Example : Type 0 where
-  -- These numbers are valid cells, or valid edges, and those are not; these cells lie under a cell, and those do not.
+  -- These numbers are valid cells, or valid edges, and those are not.
   validCells : (valid invalid : List ℕ) → Example
   validEdges : (valid invalid : List ℕ) → Example
+  -- Of the cells of resolution 0, by their base cells, these have no edge 1.
+  pentagons : (bases : List ℕ) → Example
+  -- These cells lie under a cell, and those do not.
   nests : (cell : ℕ) → (under beside : List ℕ) → Example
   -- The outline of a cell at a target has so many edges; it begins so, each edge by its digits past the cell and its edge number; and
   -- its first edge is this number.

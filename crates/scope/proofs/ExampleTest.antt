@@ -8,13 +8,13 @@ use lib.Ieee as Ieee
 use lib.Ieee.{binary64}
 use lib.ListN.{length, take, drop, getD, set}
 use Rattle.scope.specs.declared.Verdict.{Verdict}
-use Rattle.scope.specs.Lists.{headOr}
+use Rattle.scope.specs.Lists.{headOr, below}
 use Rattle.scope.specs.Answers.{refusalOf, indexOf, kindOf, verdictOf, polygonsOf, ringsOf, areaIn}
 use Rattle.scope.specs.Cells.{edgeNumber, resolutionOf}
 use Rattle.scope.specs.Memory.{Memory, memory, Output, output, keptMode}
 use Rattle.scope.specs.Calls.{Outcome, Reading, over}
 use Rattle.scope.proofs.Computing.{isCell, isEdge, isUnder, walked, summed, noLarger, found, ringsAfresh, groupsAfresh, lent, space, opened, listed, joined, offer, offerAll, read, dissolved}
-use Rattle.scope.proofs.ExampleKinds.{Offers, Shown, Slice, Change, Example, head, cells, parent, rank, cellMark, slotRow, slotCell, prev, next, rowSlot, rowMark, validCells, validEdges, nests, walks, adds, compares, finds, surrounds, opens, shortens, misfits, offers, unites, refuses, intrudes, reads, breaks, dissolves, lists, joins}
+use Rattle.scope.proofs.ExampleKinds.{Offers, Shown, Slice, Change, Example, head, cells, parent, rank, cellMark, slotRow, slotCell, prev, next, rowSlot, rowMark, validCells, validEdges, pentagons, nests, walks, adds, compares, finds, surrounds, opens, shortens, misfits, offers, unites, refuses, intrudes, reads, breaks, dissolves, lists, joins}
 
 -- ---- equality and tests over lists, computed
 
@@ -126,9 +126,10 @@ digits : ℕ → ℕ → ℕ
 digits c x = x / 2 ^ (3 * (15 - resolutionOf x)) % 8 ^ (resolutionOf x - c) * 8 + edgeNumber x
 
 unfoldable pub holds : Example → Bool
-unfolding same allSame allPass stepsPass isRefusal slices placeOf remade changed shows fresh offered room digits isCell isEdge isUnder walked summed noLarger found ringsAfresh groupsAfresh lent opened listed joined offer read dissolved
+unfolding same allSame allPass stepsPass isRefusal slices placeOf remade changed shows fresh offered room digits below isCell isEdge isUnder walked summed noLarger found ringsAfresh groupsAfresh lent opened listed joined offer read dissolved
 holds (validCells valid invalid) = allPass isCell valid && allPass (λ x. not (isCell x)) invalid
 holds (validEdges valid invalid) = allPass isEdge valid && allPass (λ x. not (isEdge x)) invalid
+holds (pentagons bs) = same (below (λ b. not (isEdge (0x11001fffffffffff + b * 2 ^ 45))) 122) bs
 holds (nests x under beside) = allPass (λ a. isUnder a x) under && allPass (λ a. not (isUnder a x)) beside
 holds (walks x t n es f) =
     let o = walked x t in

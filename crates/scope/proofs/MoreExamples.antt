@@ -5,7 +5,7 @@ use Prim.Native.Nat.{ℕ}
 use mathlib.Core.List.{List, [], _∷_}
 use lib.ListN.{take}
 use Rattle.scope.specs.Table.{table}
-use Rattle.scope.proofs.ExampleKinds.{Example, validCells, validEdges, nests, walks, compares, finds, surrounds, opens, shortens, misfits, offers, unites, refuses, intrudes, reads, breaks, dissolves, lists, joins}
+use Rattle.scope.proofs.ExampleKinds.{Example, validCells, validEdges, pentagons, nests, walks, compares, finds, surrounds, opens, shortens, misfits, offers, unites, refuses, intrudes, reads, breaks, dissolves, lists, joins}
 use Rattle.scope.proofs.ExampleKinds.{Offers, even, mixedMode, closed, refused, outlined, put, head, cells, parent, rank, cellMark, slotRow, slotCell, prev, next, rowSlot, rowMark}
 use Rattle.scope.proofs.Seven.{seven, around}
 use Rattle.scope.proofs.Mixed.{mixed, coarse, inside, beside, overBeside}
@@ -43,6 +43,8 @@ bounds =
     -- edge numbers 0, 1, 6 and 7, edge 1 of a pentagon, a cell
     ∷ validEdges (0x11001fffffffffff ∷ 0x16001fffffffffff ∷ 0x12009fffffffffff ∷ [])
     (0x10001fffffffffff ∷ 0x17001fffffffffff ∷ 0x11009fffffffffff ∷ 0x09001fffffffffff ∷ [])
+    -- the pentagons, as a real table of resolution 0 has them
+    ∷ pentagons (4 ∷ 14 ∷ 24 ∷ 38 ∷ 49 ∷ 58 ∷ 63 ∷ 72 ∷ 83 ∷ 97 ∷ 107 ∷ 117 ∷ [])
     -- one under it; then itself, one above, one beside, one under that
     ∷ nests underFirst (0x082000ffffffffff ∷ []) (underFirst ∷ first ∷ alsoUnderFirst ∷ 0x082004ffffffffff ∷ [])
     -- the outlines are those that real tables show

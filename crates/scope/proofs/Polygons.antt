@@ -2,9 +2,10 @@
 --     outer-ring        the outer of a ring is a ring of the same group
 --     outer-same        rings of one group have one outer
 --     polygon-count     AS MANY POLYGONS AS GROUPS WITH A RING
+--     sound-polygons    so it is of every state that passes the rules
 -- Assumes nothing.
 use mathlib.Core.Path.{_≡_, refl, sym, _∙_, ap, subst}
-use mathlib.Core.Bool.{Bool, true, false}
+use mathlib.Core.Bool.{Bool, true, false, not}
 use mathlib.Core.Logic.{_⊎_, inl, inr, ⊎-elim}
 use mathlib.Core.List.{List, [], _∷_, map, List·Memᴰ, List·Memᴰ·head, List·Memᴰ·tail, List·Memᴰ·not-nil, List·Memᴰ·cases-cons, Memᴰ·map, Memᴰ·of-map, Memᴰ·cast}
 use Prim.Native.Nat.{ℕ, suc, _<_}
@@ -12,11 +13,18 @@ use native.Mathlib.Omega.{arith}
 use lib.Dec.{eqb}
 use lib.ListN.{length}
 use borrow.Author.Tests.{eq-eqb, eqb-true}
-use Rattle.scope.specs.Lists.{keep, below, member, headOr}
-use Rattle.scope.specs.Order.{View, sortBy, groupAt, lowestRows, withinPolygon, outerAt, polygonCount}
-use Rattle.scope.proofs.Tests.{either, clash}
+use Rattle.scope.specs.Lists.{at, keep, below, member, headOr}
+use Rattle.scope.specs.Table.{Table}
+use Rattle.scope.specs.Memory.{Memory, held, hasSlot, slotOf}
+use Rattle.scope.specs.UnionFind.{rootOf}
+use Rattle.scope.specs.Afresh.{startsRing}
+use Rattle.scope.specs.Order.{View, view, sortBy, groupOf, groupAt, lowestRows, withinPolygon, outerAt, polygonCount}
+use Rattle.scope.proofs.Tests.{either, clash, and-left}
+use Rattle.scope.proofs.Scan.{passes-not, passes-fails}
 use Rattle.scope.proofs.Members.{Fresh, member-true, member-mem, below-mem, mem-below, below-fresh}
 use Rattle.scope.proofs.Pigeonhole.{one-to-one}
+use Rattle.scope.proofs.Linked.{at-in, true-has, slot-used}
+use Rattle.scope.proofs.Sound.{Sound, sound-linked}
 use Rattle.scope.proofs.Sorting.{All, all-sort, sort-length}
 
 -- ---- what is kept of a list
@@ -76,10 +84,6 @@ module _ (v : View) where
 
   abbrev outerIn : ℕ → ℕ → ℕ
   outerIn d g = headOr d (sortBy (withinPolygon v) (ringsIn g))
-
-  outer-is : (r : ℕ) → outerAt v r ≡ outerIn r (groupAt v r)
-  unfolding outerAt
-  outer-is r = refl
 
   in-group : (r : ℕ) → List·Memᴰ r (lowestRows v) → List·Memᴰ r (ringsIn (groupAt v r))
   in-group r i = keep-mem (isIn (groupAt v r)) (lowestRows v) i (eq-eqb (groupAt v r) (groupAt v r) refl)
@@ -147,3 +151,23 @@ module _ (v : View) where
         let b = one-to-one (outerIn 0) ringGroups outers (below-fresh _ _) (λ g i. group-outer g i .0)
         (λ g h i j e. sym (group-outer g i .1) ∙ ap (groupAt v) e ∙ group-outer h j .1) in
         omega arith
+
+-- ---- states that pass the rules
+
+-- a held cell's group is one of the held places
+group-held : (parent : List ℕ) (n c : ℕ) → c < n → groupOf parent n c < n
+unfolding groupOf
+group-held parent n c h =
+    let same : ℕ → Bool = λ p. not (eqb (rootOf parent p) (rootOf parent c)) in
+    passes-fails same n (passes-not same n c h (ap not (eq-eqb (rootOf parent c) (rootOf parent c) refl)))
+
+module _ {t : Table} {m : Memory} (s : Sound t m) where
+  ring-held : (r : ℕ) → List·Memᴰ r (lowestRows (view t m)) → groupAt (view t m) r < held m
+  unfolding startsRing
+  ring-held r i =
+      let L = sound-linked s in
+      let u = slot-used L r (true-has m r (and-left (hasSlot m r) _ (mem-below _ _ r i .1))) in
+      group-held (m .parent) (held m) (at (m .slotCell) (slotOf m r)) (s .rules .slot-used (slotOf m r) (at-in (m .slotRow) (slotOf m r) u) u .cell-held)
+
+  pub sound-polygons : polygonCount (view t m) ≡ length (ringGroups (view t m))
+  sound-polygons = polygon-count (view t m) ring-held

@@ -1,6 +1,7 @@
 // The four calls over lent slices: open, offer, read out and dissolve. The Rust's `Solvent` and `ArcSet`.
 // Each takes any slices: what the definitions of `scope` say of the call is its answer and what it leaves.
 mod lengths;
+mod outline;
 mod verdicts;
 
 use arcs::Pool;

@@ -1,9 +1,10 @@
--- ONE MORE CELL: what `taking` leaves of a sound state that accepts the cell, up to the rules of the slots.
---     placedFor               the state with the outline placed, all pairs still there
---     taken-cells, taken-..   the held cells are one more; marks and lengths are as they were
---     placed-slot             in a used slot of the state with the outline placed stands a row of a held cell
---     taken-linked            slots and rows point at each other, links are inverse
---     taken-forest            the parents and ranks keep their rules
+-- ONE MORE CELL: what `taking` leaves of a sound state that accepts the cell, list by list.
+--     placedFor                    the state with the outline placed, all pairs still there
+--     taken-cells, taken-..        the held cells are one more; mode, capacity and marks are as they were
+--     offered-linked               slots and rows point at each other with the outline placed; `taken-linked`: and with the pairs gone
+--     placed-cell, placed-owned    a used slot stands in the name of a held cell, which its row belongs to
+--     pairs-held                   the cells of a pair that cancels are held
+--     taken-forest                 the parents and ranks keep their rules
 -- Assumes nothing.
 use mathlib.Core.Path.{_≡_, refl, sym, _∙_, ap}
 use mathlib.Core.Bool.{true}

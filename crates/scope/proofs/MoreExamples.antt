@@ -150,8 +150,11 @@ states =
     ∷ breaks (two 4 8) (put prev 1 1 ∷ []) 9
     ∷ breaks (two 4 8) (put next 1 1 ∷ []) 9
     ∷ breaks (two 4 8) (put prev 3 10 ∷ put next 3 10 ∷ put prev 10 3 ∷ put next 10 3 ∷ []) 9
-    -- a foreign state with a ring of row 8 passes; with its reverse, row 16, beside it, it does not
+    -- a foreign state with a ring of row 8 in slot 0 passes; with links to a free slot or past the pool it does not
     ∷ breaks (two 5 9) (put slotRow 0 9 ∷ put slotCell 0 1 ∷ put rowSlot 8 1 ∷ []) 0
+    ∷ breaks (two 5 9) (put slotRow 0 9 ∷ put slotCell 0 1 ∷ put rowSlot 8 1 ∷ put prev 0 10 ∷ put next 0 10 ∷ []) 9
+    ∷ breaks (two 5 9) (put slotRow 0 9 ∷ put slotCell 0 1 ∷ put rowSlot 8 1 ∷ put prev 0 11 ∷ put next 0 11 ∷ []) 9
+    -- nor with its reverse, row 16, beside it
     ∷ breaks (two 6 10)
     (put slotRow 0 9 ∷ put slotCell 0 1 ∷ put rowSlot 8 1
     ∷ put slotRow 6 17 ∷ put slotCell 6 1 ∷ put prev 6 6 ∷ put next 6 6 ∷ put rowSlot 16 7 ∷ []) 9

@@ -15,11 +15,19 @@ pub record Offers : Type 0 where
   pub rows : ℕ
   pub cells : List ℕ
 
-abbrev pub even : Table → ℕ → ℕ → ℕ → ℕ → List ℕ → Offers
-even t slots places records rows cs = record { table = t; mode = 0; slots = slots; places = places; records = records; rows = rows; cells = cs }
+abbrev pub inMode : ℕ → Table → ℕ → ℕ → ℕ → ℕ → List ℕ → Offers
+inMode mode t slots places records rows cs = record {
+  table = t;
+  mode = mode;
+  slots = slots;
+  places = places;
+  records = records;
+  rows = rows;
+  cells = cs;
+}
 
-abbrev pub mixedMode : Table → ℕ → ℕ → ℕ → ℕ → List ℕ → Offers
-mixedMode t slots places records rows cs = record { table = t; mode = 1; slots = slots; places = places; records = records; rows = rows; cells = cs }
+abbrev pub even : Table → ℕ → ℕ → ℕ → ℕ → List ℕ → Offers
+even = inMode 0
 
 -- What read out and dissolve answer and write: a refusal and its index, or 0; the kind of answer and the polygon count; of each ring of the ring
 -- list its lowest row, its length, its group and the bits of its area.
@@ -118,6 +126,8 @@ pub data Example : Type 0 where
   breaks : (run : Offers) → (changes : List Change) → (refusal : ℕ) → Example
   -- Dissolve in memory that holds anything. It leaves what the offers leave; refused, a newly opened state.
   dissolves : (run : Offers) → (shown : Shown) → Example
+  -- Dissolve refused before it opens the memory: memory and outputs are as they were.
+  rejects : (run : Offers) → (refusal index : ℕ) → Example
   -- A list's checks, and those of one cell against the cells that are held.
   lists : (mode target capacity : ℕ) → (cells : List ℕ) → (refusal index : ℕ) → Example
   joins : (mode target capacity : ℕ) → (held : List ℕ) → (cell refusal index : ℕ) → Example

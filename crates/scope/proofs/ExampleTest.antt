@@ -14,7 +14,7 @@ use Rattle.scope.specs.Cells.{edgeNumber, resolutionOf}
 use Rattle.scope.specs.Memory.{Memory, memory, Output, output, keptMode}
 use Rattle.scope.specs.Calls.{Outcome, Reading, over}
 use Rattle.scope.proofs.Computing.{isCell, isEdge, isUnder, walked, summed, noLarger, found, ringsAfresh, groupsAfresh, lent, space, opened, listed, joined, offer, offerAll, read, dissolved}
-use Rattle.scope.proofs.ExampleKinds.{Offers, Shown, Slice, Change, Example, head, cells, parent, rank, cellMark, slotRow, slotCell, prev, next, rowSlot, rowMark, validCells, validEdges, pentagons, nests, walks, adds, compares, finds, surrounds, opens, shortens, misfits, offers, unites, refuses, intrudes, reads, breaks, dissolves, lists, joins}
+use Rattle.scope.proofs.ExampleKinds.{Offers, Shown, refused, Slice, Change, Example, head, cells, parent, rank, cellMark, slotRow, slotCell, prev, next, rowSlot, rowMark, validCells, validEdges, pentagons, nests, walks, adds, compares, finds, surrounds, opens, shortens, misfits, offers, unites, refuses, intrudes, reads, breaks, dissolves, rejects, lists, joins}
 
 -- ---- equality and tests over lists, computed
 
@@ -119,6 +119,10 @@ room : Offers → Output
 unfolding space
 room r = space (r .records) (r .rows)
 
+dissolution : Offers → Reading
+unfolding lent room dissolved
+dissolution r = dissolved (r .table) (lent (r .table) (r .slots) (r .places)) (r .mode) (r .cells) (room r)
+
 -- ---- the test
 
 -- the digits past resolution c of an edge and its edge number as one octal numeral: 13/3 is 0o133
@@ -126,7 +130,7 @@ digits : ℕ → ℕ → ℕ
 digits c x = x / 2 ^ (3 * (15 - resolutionOf x)) % 8 ^ (resolutionOf x - c) * 8 + edgeNumber x
 
 unfoldable pub holds : Example → Bool
-unfolding same allSame allPass stepsPass isRefusal slices placeOf remade changed shows fresh offered room digits below isCell isEdge isUnder walked summed noLarger found ringsAfresh groupsAfresh lent opened listed joined offer read dissolved
+unfolding same allSame allPass stepsPass isRefusal slices placeOf remade changed shows fresh offered room digits below isCell isEdge isUnder walked summed noLarger found ringsAfresh groupsAfresh lent opened listed joined offer read dissolution
 holds (validCells valid invalid) = allPass isCell valid && allPass (λ x. not (isCell x)) invalid
 holds (validEdges valid invalid) = allPass isEdge valid && allPass (λ x. not (isEdge x)) invalid
 holds (pentagons bs) = same (below (λ b. not (isEdge (0x11001fffffffffff + b * 2 ^ 45))) 122) bs
@@ -174,9 +178,12 @@ holds (breaks r cs number) =
 holds (dissolves r s) =
     let full = offered r .left in
     let empty = fresh r .left in
-    let d = dissolved (r .table) (lent (r .table) (r .slots) (r .places)) (r .mode) (r .cells) (room r) in
+    let d = dissolution r in
     shows d (room r) (ringsAfresh (r .table) (r .cells)) s
     && allSame (slices (d .left)) (slices (cond (eqb (s .refusal) 0) full empty))
+holds (rejects r number index) =
+    let d = dissolution r in
+    shows d (room r) [] (refused number index) && allSame (slices (d .left)) (slices (lent (r .table) (r .slots) (r .places)))
 holds (lists mode target capacity cs number index) = isRefusal (listed mode target capacity cs) number index
 holds (joins mode target capacity cs x number index) = isRefusal (joined mode target capacity cs x) number index
 

@@ -5,8 +5,8 @@ use Prim.Native.Nat.{ℕ}
 use mathlib.Core.List.{List, [], _∷_}
 use lib.ListN.{take}
 use Rattle.scope.specs.Table.{table}
-use Rattle.scope.proofs.ExampleKinds.{Example, validCells, validEdges, pentagons, nests, walks, compares, finds, surrounds, opens, shortens, misfits, offers, unites, refuses, intrudes, reads, breaks, dissolves, lists, joins}
-use Rattle.scope.proofs.ExampleKinds.{Offers, even, mixedMode, closed, refused, outlined, put, head, cells, parent, rank, cellMark, slotRow, slotCell, prev, next, rowSlot, rowMark}
+use Rattle.scope.proofs.ExampleKinds.{Example, validCells, validEdges, pentagons, nests, walks, compares, finds, surrounds, opens, shortens, misfits, offers, unites, refuses, intrudes, reads, breaks, dissolves, rejects, lists, joins}
+use Rattle.scope.proofs.ExampleKinds.{Offers, inMode, even, closed, refused, outlined, put, head, cells, parent, rank, cellMark, slotRow, slotCell, prev, next, rowSlot, rowMark}
 use Rattle.scope.proofs.Seven.{seven, around}
 use Rattle.scope.proofs.Mixed.{mixed, coarse, inside, beside, overBeside}
 use Rattle.scope.proofs.Odd.{odd, fewReverses, fewTerms, withEdge, withReverse, withTerm, first, second, third, absent, underFirst, alsoUnderFirst, underSecond}
@@ -31,7 +31,7 @@ two : ℕ → ℕ → Offers
 two records rows = even odd 11 3 records rows (second ∷ first ∷ [])
 
 onMixed : ℕ → List ℕ → Offers
-onMixed slots cs = mixedMode mixed slots 2 2 24 cs
+onMixed slots cs = inMode 1 mixed slots 2 2 24 cs
 
 -- numbers, walks, tables, and the order of tests
 unfoldable pub bounds : List Example
@@ -124,6 +124,11 @@ states =
     ∷ dissolves (even odd 10 3 3 8 (second ∷ first ∷ [])) (refused 10 0)
     ∷ reads (even odd 10 3 4 7 (second ∷ first ∷ [])) (refused 10 0)
     ∷ misfits (two 4 8)
+    -- in read out it is tested after 9
+    ∷ breaks (two 3 8) (put head 0 2 ∷ []) 9
+    -- dissolve refused by its list's checks writes nothing
+    ∷ rejects (even odd 10 3 4 8 (first ∷ first ∷ [])) 3 1
+    ∷ rejects (inMode 3 odd 10 3 4 8 (first ∷ [])) 10 0
     -- 8, 5, 7
     ∷ refuses (even odd 11 1 4 8 (first ∷ [])) absent 8 0
     ∷ refuses (even odd 5 3 4 8 []) absent 5 0
@@ -180,6 +185,8 @@ coarser =
     ∷ reads (onMixed 24 (coarse ∷ beside ∷ [])) (outlined 1 (0 ∷ []) (20 ∷ []) (0 ∷ []) (0x3e5727036fa38800 ∷ []))
     ∷ reads (onMixed 24 (beside ∷ coarse ∷ [])) (outlined 1 (0 ∷ []) (20 ∷ []) (0 ∷ []) (0x3e5727036fa38800 ∷ []))
     ∷ offers (onMixed 23 (coarse ∷ beside ∷ [])) 7 1
+    -- mode 2 means even
+    ∷ rejects (inMode 2 mixed 24 2 2 24 (coarse ∷ [])) 4 0
     -- the place of the cell that lies under the other
     ∷ refuses (onMixed 24 (coarse ∷ [])) inside 3 1
     ∷ refuses (onMixed 24 (beside ∷ [])) overBeside 3 0

@@ -13,3 +13,4 @@ pub mod Skipping
 pub mod Pairing
 pub mod Cancelled
 pub mod RowsMet
+pub mod PlacedSlots

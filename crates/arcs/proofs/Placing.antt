@@ -52,7 +52,7 @@ pub store-next : (ks vs l : List ℕ) (i : ℕ) {all : List ℕ} {k v : ℕ} →
 store-next ks vs l i h g ek ev e = rw (ek, ev) (sym (putAll-step ks vs l i h g) ∙ e)
 
 -- a value of a list that is made of another
-map-at : (l : List ℕ) (i : ℕ) → i < length l → at (map suc l) i ≡ suc (at l i)
+pub map-at : (l : List ℕ) (i : ℕ) → i < length l → at (map suc l) i ≡ suc (at l i)
 map-at [] i h = absurd (omega arith)
 map-at (x ∷ l) zero h = refl
 map-at (x ∷ l) (suc i) h = map-at l i (omega arith)
@@ -71,7 +71,7 @@ pub record Placing (slotRow slotCell rowSlot o : List ℕ) (n i start : ℕ) (sl
   pub long-slots : length rowSlot′ ≡ length rowSlot
 
 module _ {slotRow slotCell rowSlot o : List ℕ} {n : ℕ} (A : PlaceAsks slotRow slotCell rowSlot o n) where
-  slots-many : length (slotsIn slotRow o) ≡ length o
+  pub slots-many : length (slotsIn slotRow o) ≡ length o
   slots-many = length-take-le (length o) (freeIn slotRow) (A .enough)
 
   pub placing-start : Placing slotRow slotCell rowSlot o n 0 0 slotRow slotCell rowSlot

@@ -2,3 +2,4 @@
 pub mod Place
 pub mod Cancel
 pub mod CancelRows
+pub mod Taking

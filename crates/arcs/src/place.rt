@@ -1,12 +1,14 @@
 // Placing an outline: its i-th edge takes the i-th lowest free slot, and its edges are linked in walk order.
 use slices::get32;
 use slices::put32;
+use union_find::add;
 ghost use mathlib.Core.Path.{_≡_};
 ghost use Prim.Native.Nat.{_<_, _≤_};
 ghost use lib.ListN.{length};
 ghost use Rattle.scope.specs.Lists.{at};
 ghost use Rattle.scope.proofs.Outlines.{onward};
 ghost use Rattle.arcs.specs.Place.{freeFrom, PlaceAsks, PlacedRows, slotsAt, SlotAsks, LinkAsks, LinkedRows};
+ghost use Rattle.arcs.specs.Taking.{HoldAsks, CellHeld, OutlineAsks, OutlinePlaced};
 
 // The lowest free slot from `start` on, or the pool's size where there is none.
 pub fn next_free(slot_row: &[u32], start: usize) -> usize
@@ -77,4 +79,39 @@ pub fn link_rows(prev: &mut [u32], next: &mut [u32], row_slot: &[u32], rows: &[u
         put32(prev, after, slot);
         i += 1;
     }
+}
+
+// An outline in the lowest free slots, linked in walk order.
+pub fn place_outline(
+    slot_row: &mut [u32],
+    slot_cell: &mut [u32],
+    prev: &mut [u32],
+    next: &mut [u32],
+    row_slot: &mut [u32],
+    rows: &[u32],
+    place: usize,
+)
+    requires { ⌜ OutlineAsks (now «slot_row») (now «slot_cell») (now prev) (now next) (now «row_slot») (now rows) place ⌝ }
+    ensures { λ _. ⌜ OutlinePlaced (now («slot_row» .entry)) (now («slot_cell» .entry)) (now (prev .entry)) (now (next .entry)) (now («row_slot» .entry)) (now (rows .entry)) place (now («slot_row» .exit)) (now («slot_cell» .exit)) (now (prev .exit)) (now (next .exit)) (now («row_slot» .exit)) ⌝ }
+{
+    place_rows(slot_row, slot_cell, row_slot, rows, place);
+    link_rows(prev, next, row_slot, rows);
+}
+
+// The cell takes the next place, a group of its own. Answers the place.
+pub fn hold_cell(
+    head: &mut [u32],
+    cells: &mut [u64],
+    parent: &mut [u32],
+    rank: &mut [u32],
+    cell: u64,
+) -> usize
+    requires { ⌜ HoldAsks (now head) (now cells) (now parent) (now rank) ⌝ }
+    ensures { λ r. ⌜ CellHeld (now (head .entry)) (now (cells .entry)) (now (parent .entry)) (now (rank .entry)) cell r (now (head .exit)) (now (cells .exit)) (now (parent .exit)) (now (rank .exit)) ⌝ }
+{
+    let place = get32(head, 1);
+    put32(head, 1, place + 1);
+    cells[place] = cell;
+    add(parent, rank, place);
+    place
 }

@@ -1,0 +1,56 @@
+-- `arcs::place::hold_cell` meets its contract (PlacedSlots).
+-- Assumes nothing.
+use borrow.Author.Needs.{needs}
+use mathlib.Core.Path.{refl}
+use Rattle.arcs.proofs.PlacedSlots.{add-asks, cell-held}
+use Rattle.arcs.proofs.place.hold_cell.Statement.{statement}
+use Rattle.arcs.proofs.place.hold_cell.Tie as tie
+
+get32-requires : tie.Need-get32-requires
+get32-requires c κs = search needs
+
+add-put32 : tie.Need-add-put32
+add-put32 c = search needs
+
+put32-requires : tie.Need-put32-requires
+put32-requires c κs = search needs
+
+mul-cells : tie.Need-mul-cells
+mul-cells c = search needs
+
+slice-write-cells : tie.Need-slice-write-cells
+slice-write-cells c = search needs
+
+add-requires : tie.Need-add-requires
+add-requires c κs = add-asks (c .before .before .before .before .before .before .before .before .before .before .before .before .pre) (c .before .before .before .before .before .before .get32 .ensures .0)
+
+same-length : tie.Need-same-length
+same-length c = search needs
+
+same-length-2 : tie.Need-same-length-2
+same-length-2 c = search needs
+
+same-length-3 : tie.Need-same-length-3
+same-length-3 c = search needs
+
+same-length-4 : tie.Need-same-length-4
+same-length-4 c = search needs
+
+returns : tie.Need-returns
+returns c = cell-held (c .before .before .before .before .before .before .before .before .before .before .before .before .before .before .before .before .before .pre) (c .before .before .before .before .before .before .before .before .before .before .before .get32 .ensures .0) (c .before .before .before .before .before .before .before .before .before .before .before .before .before .before .before .before .before .args .cell) (c .before .before .before .before .before .before .before .before .before .put32 .ensures) refl (c .before .before .before .before .add .ensures)
+
+pub hold-cell-spec : {M : Type 1} → statement M
+hold-cell-spec =
+    tie.close
+    (tie.spec
+    get32-requires
+    add-put32
+    put32-requires
+    mul-cells
+    slice-write-cells
+    add-requires
+    same-length
+    same-length-2
+    same-length-3
+    same-length-4
+    returns)

@@ -1,0 +1,43 @@
+-- `arcs::place::place_outline` meets its contract: the rows, then the links (PlacedSlots).
+-- Assumes nothing.
+use borrow.Author.Needs.{needs}
+use Rattle.arcs.proofs.PlacedSlots.{link-asks, outline-done}
+use Rattle.arcs.proofs.place.place_outline.Statement.{statement}
+use Rattle.arcs.proofs.place.place_outline.Tie as tie
+
+place-rows-requires : tie.Need-place-rows-requires
+place-rows-requires c κs = search needs
+
+link-rows-requires : tie.Need-link-rows-requires
+link-rows-requires c κs = link-asks (c .before .before .before .before .before .before .before .before .before .before .before .before .before .before .before .before .before .before .before .pre) (c .before .before .before .before .before .before .before .before .before .place-rows .ensures)
+
+same-length : tie.Need-same-length
+same-length c = search needs
+
+same-length-2 : tie.Need-same-length-2
+same-length-2 c = search needs
+
+same-length-3 : tie.Need-same-length-3
+same-length-3 c = search needs
+
+same-length-4 : tie.Need-same-length-4
+same-length-4 c = search needs
+
+same-length-5 : tie.Need-same-length-5
+same-length-5 c = search needs
+
+returns : tie.Need-returns
+returns c = outline-done (c .before .before .before .before .before .before .before .before .before .before .before .before .before .before .before .before .before .before .before .before .before .before .before .before .pre) (c .before .before .before .before .before .before .before .before .before .before .before .before .before .before .place-rows .ensures) (c .before .before .before .before .link-rows .ensures)
+
+pub place-outline-spec : {M : Type 1} → statement M
+place-outline-spec =
+    tie.close
+    (tie.spec
+    place-rows-requires
+    link-rows-requires
+    same-length
+    same-length-2
+    same-length-3
+    same-length-4
+    same-length-5
+    returns)

@@ -7,7 +7,7 @@ use mathlib.Core.Path.{_≡_, refl, sym, _∙_, ap, subst}
 use mathlib.Core.Logic.{_⊎_, inl, inr, ⊎-elim, _≢_}
 use mathlib.Core.Bool.{Bool, true, false, _&&_, not, cond}
 use mathlib.Core.List.{List, [], _∷_, List·Memᴰ}
-use Prim.Native.Nat.{ℕ, zero, suc, _+_, _-_, _≤_, _<_}
+use Prim.Native.Nat.{ℕ, zero, suc, _+_, _*_, _-_, _≤_, _<_}
 use native.Mathlib.Omega.{arith}
 use lib.ListN.{length, drop, length-map, List·getD-eq-default}
 use Rattle.scope.specs.Lists.{at}
@@ -24,6 +24,7 @@ use Rattle.arcs.specs.CancelRows.{CancelAsks}
 use Rattle.arcs.proofs.Round.{Round}
 use Rattle.arcs.proofs.After.{After, after-none, after-same, round-same}
 use Rattle.arcs.proofs.Gone.{gone, gone-none}
+use Rattle.arcs.proofs.Counting.{usedTotal}
 
 abbrev pub Left : Table → Memory → List ℕ → ℕ → Type 0
 Left t m l s = Used m s × (gone t m l s ≡ false)
@@ -47,6 +48,7 @@ pub record Cancelling (t : Table) (m : Memory) (n : ℕ) (ss l rest : List ℕ) 
   pub prev-clear : (s : ℕ) → (Left t m l s → ⊥) → at (m′ .prev) s ≡ 0
   pub united : unitePairs t m (metFirst t m l rest) (record { parents = m′ .parent; ranks = m′ .rank }) ≡ unions t m ss
   pub count : pairs + length (metFirst t m l rest) ≡ length (metFirst t m [] ss)
+  pub used : usedTotal (m′ .slotRow) (slots m) + 2 * pairs ≡ usedTotal (m .slotRow) (slots m)
   pub forest : Forest (m′ .parent) (m′ .rank) n
   pub long-parent : length (m′ .parent) ≡ length (m .parent)
   pub long-rank : length (m′ .rank) ≡ length (m .rank)
@@ -84,6 +86,7 @@ module _ {t : Table} {m : Memory} {n : ℕ} {o : List ℕ} (A : CancelAsks t m n
     prev-clear = clear (m .prev) (A .even-prev) (λ i h e. A .free i h e .prev-clear);
     united = refl;
     count = omega arith;
+    used = omega arith;
     forest = A .forest;
     long-parent = refl;
     long-rank = refl;

@@ -14,3 +14,4 @@ pub mod Pairing
 pub mod Cancelled
 pub mod RowsMet
 pub mod PlacedSlots
+pub mod Counting

@@ -7,7 +7,7 @@ use mathlib.Core.Path.{_≡_, refl, sym, _∙_, ap, subst}
 use mathlib.Core.Logic.{_⊎_, inl, inr, ⊎-elim, _≢_}
 use mathlib.Core.Bool.{Bool, true, false, _&&_, not, cond}
 use mathlib.Core.List.{List, [], _∷_, List·Memᴰ}
-use Prim.Native.Nat.{ℕ, suc, _+_, _-_, _≤_, _<_}
+use Prim.Native.Nat.{ℕ, suc, _+_, _*_, _-_, _≤_, _<_}
 use native.Mathlib.Omega.{arith}
 use lib.ListN.{length, set, length-set}
 use Rattle.scope.specs.Lists.{at}
@@ -25,6 +25,7 @@ use Rattle.arcs.proofs.Pair.{Less₂, Mates, Removed, pair-removed, pai
 use Rattle.arcs.proofs.After.{after-pair, after-same, round-same}
 use Rattle.arcs.proofs.Gone.{gone, gone-from, gone-mate, gone-else, gone-first, gone-second}
 use Rattle.arcs.proofs.Cancelling.{Left, unlessGone, unions, Cancelling}
+use Rattle.arcs.proofs.Counting.{usedTotal, used-clear}
 use Rattle.arcs.proofs.Skipping.{met-pair, kept, none, mate-is}
 
 -- ---- two places cleared
@@ -201,6 +202,10 @@ module _ {t : Table} {m : Memory} {n : ℕ} {o : List ℕ} (A : CancelAsks t m n
       ∙ ap (unitePairs t m (metFirst t m (x ∷ l) rest))
       (ap (λ (w : ℕ). uniting (m′ .parent) (m′ .rank) (at (m .slotCell) x) (at (m .slotCell) w)) is-mate ∙ sym e)
 
+  -- a slot that is left holds its row
+  row-used : (s : ℕ) → Left t m l s → at (m′ .slotRow) s ≢ 0
+  row-used s u z = u .0 (sym (C .slot-row s ∙ rw (u .1)) ∙ z)
+
   -- THE TURN
   pub cancelling-pair : {m″ : Memory} → PairCancelled m′ n row back m″ → Cancelling t m n ss (x ∷ l) rest (pairs + 1) m″
   cancelling-pair {m″} D =
@@ -225,6 +230,10 @@ module _ {t : Table} {m : Memory} {n : ℕ} {o : List ℕ} (A : CancelAsks t m n
         prev-clear = rw prevs (cleared prev-put (λ s k. rest-kept s k .1 ∙ C .prev-clear s k));
         united = sym (united-on m″ joined) ∙ C .united;
         count = let c = C .count in let f = ap length is-first in omega arith;
+        used =
+            let k = used-clear (m′ .slotRow) (slots m) x y (C .long-row) low-x low-y (mates .apart) (row-used x x-left) (row-used y y-left) in
+            let c = C .used in
+            rw rows (omega arith);
         forest = D .forest;
         long-parent = D .long-parent ∙ C .long-parent;
         long-rank = D .long-rank ∙ C .long-rank;

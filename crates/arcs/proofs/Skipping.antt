@@ -105,6 +105,7 @@ module _ {t : Table} {m : Memory} {n : ℕ} {o : List ℕ} (A : CancelAsks t m n
     prev-clear = λ s k. C .prev-clear s (λ u. k (left-in s u));
     united = rw (← not-first) (C .united);
     count = rw (← not-first) (C .count);
+    used = C .used;
     forest = C .forest;
     long-parent = C .long-parent;
     long-rank = C .long-rank;

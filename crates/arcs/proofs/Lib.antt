@@ -15,3 +15,4 @@ pub mod Cancelled
 pub mod RowsMet
 pub mod PlacedSlots
 pub mod Counting
+pub mod Offering

@@ -7,7 +7,7 @@ use mathlib.Core.Path.{_≡_, refl, sym, _∙_, ap, subst}
 use mathlib.Core.Logic.{_⊎_, inl, inr, ⊎-elim, _≢_}
 use mathlib.Core.Bool.{true}
 use mathlib.Core.List.{List, [], _∷_, List·Memᴰ, List·Memᴰ·head, List·Memᴰ·tail, List·Memᴰ·not-nil, List·Memᴰ·cases-cons, Memᴰ·cast}
-use Prim.Native.Nat.{ℕ, zero, suc, _+_, _-_, _≤_, _<_}
+use Prim.Native.Nat.{ℕ, zero, suc, _+_, _*_, _-_, _≤_, _<_}
 use native.Mathlib.Numerals.{add-one}
 use native.Mathlib.Nat.{add-zero}
 use native.Mathlib.Omega.{arith}
@@ -19,7 +19,7 @@ use Rattle.scope.specs.Memory.{Memory, memory, slots, slotOf, rowIn}
 use Rattle.scope.specs.Pool.{cancels, reverseSlot, metFirst, cancelled}
 use Rattle.scope.proofs.Members.{Fresh, mem-at, place}
 use Rattle.scope.proofs.Linked.{Has, Linked, has-in, row-slot}
-use Rattle.arcs.specs.Place.{slotsAt}
+use Rattle.arcs.specs.Place.{freeIn, slotsAt}
 use Rattle.arcs.specs.Cancel.{PairAsks, PairCancelled}
 use Rattle.arcs.specs.CancelRows.{RowAsks, RowCancelled, CancelAsks, RowsCancelled}
 use Rattle.arcs.proofs.Linking.{slots-at}
@@ -27,6 +27,7 @@ use Rattle.arcs.proofs.Gone.{seen, seen-none, seen-more, seen-not, seen
 use Rattle.arcs.proofs.Cancelling.{Cancelling, cancelling-start}
 use Rattle.arcs.proofs.Skipping.{cancelling-skip}
 use Rattle.arcs.proofs.Pairing.{pair-asks, cancelling-pair}
+use Rattle.arcs.proofs.Counting.{usedTotal, free-count}
 use Rattle.arcs.proofs.Cancelled.{cancelling-end, cancelling-count}
 
 -- ---- the outline's slots
@@ -118,7 +119,13 @@ module _ {t : Table} {m : Memory} {n : ℕ} {o : List ℕ} (A : CancelAsks t m n
         record {
           left = cancelling-end A C met-all;
           count = cancelling-count A C met-all;
-          forest = G .going .forest;
+          free =
+              let u = C .used in
+              let a = free-count (m .slotRow) in
+              let b = free-count (m′ .slotRow) in
+              let k = C .long-row in
+              let w = ap (usedTotal (m′ .slotRow)) k in
+              omega arith;
         }
       where
         met-all : (s : ℕ) → cancels t m s ≡ true → Met t m (seen (slotsAt (m .rowSlot) o) (length (slotsAt (m .rowSlot) o))) s

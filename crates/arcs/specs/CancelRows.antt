@@ -4,7 +4,7 @@ use mathlib.Core.Path.{_≡_}
 use mathlib.Core.Logic.{_⊎_}
 use mathlib.Core.Bool.{true}
 use mathlib.Core.List.{List, [], List·Memᴰ}
-use Prim.Native.Nat.{ℕ, _<_, _≤_, _^_}
+use Prim.Native.Nat.{ℕ, _+_, _*_, _<_, _≤_, _^_}
 use lib.ListN.{length}
 use Rattle.scope.specs.Lists.{at}
 use Rattle.scope.specs.Table.{Table, rowCount, reverseOf}
@@ -15,7 +15,7 @@ use Rattle.scope.proofs.Successor.{Reverses}
 use Rattle.scope.proofs.Rules.{SlotFree}
 use Rattle.scope.proofs.Linked.{Used, Has, Linked}
 use Rattle.scope.proofs.Halving.{Forest}
-use Rattle.arcs.specs.Place.{slotsAt}
+use Rattle.arcs.specs.Place.{freeIn, slotsAt}
 use Rattle.arcs.specs.Cancel.{PairAsks, PairCancelled}
 
 -- A table of which only the reverse rows matter.
@@ -55,8 +55,8 @@ pub record CancelAsks (t : Table) (m : Memory) (n : ℕ) (o : List ℕ) : Type 0
   pub slots-fit : slots m ≤ 2 ^ 32
   pub cells-fit : n < 2 ^ 32
 
--- The state left is the one that `cancelled` defines, and the answer is the number of its pairs.
+-- The state left is the one that `cancelled` defines. The answer is the number of its pairs: so many pairs of slots are free again.
 pub record RowsCancelled (t : Table) (m : Memory) (n : ℕ) (o : List ℕ) (pairs : ℕ) (m′ : Memory) : Type 0 where
   pub left : m′ ≡ cancelled t m (slotsAt (m .rowSlot) o)
   pub count : pairs ≡ length (metFirst t m [] (slotsAt (m .rowSlot) o))
-  pub forest : Forest (m′ .parent) (m′ .rank) n
+  pub free : length (freeIn (m′ .slotRow)) ≡ length (freeIn (m .slotRow)) + 2 * pairs

@@ -1,17 +1,16 @@
 -- One more cell: held, its outline placed, its pairs cancelled.
 -- Assumes nothing.
 use mathlib.Core.Path.{_≡_}
-use mathlib.Core.List.{List, [], map}
+use mathlib.Core.List.{List, map}
 use Prim.Native.Nat.{ℕ, suc, _+_, _*_, _<_, _^_}
 use lib.ListN.{length, set, replicate}
 use Rattle.scope.specs.Lists.{at, rotate, putAll}
-use Rattle.scope.specs.Table.{Table}
-use Rattle.scope.specs.Memory.{Memory, held, places}
-use Rattle.scope.specs.Pool.{freeSlots, slotsFor, placed, metFirst, cancelled}
+use Rattle.scope.specs.Table.{Table, outlineRows}
+use Rattle.scope.specs.Memory.{Memory}
+use Rattle.scope.specs.Pool.{freeSlots, taking}
 use Rattle.scope.proofs.Members.{Fresh}
 use Rattle.scope.proofs.Halving.{Forest}
-use Rattle.scope.proofs.Placed.{Placeable}
-use Rattle.scope.proofs.Sound.{Sound}
+use Rattle.scope.proofs.Sound.{Offered}
 use Rattle.arcs.specs.Place.{slotsIn, PlaceAsks}
 
 -- ---- the cell
@@ -49,15 +48,12 @@ pub record OutlinePlaced (slotRow slotCell prev next rowSlot o : List ℕ) (plac
 
 -- ---- all of it
 
--- The state is sound, the outline can be placed, and there is a place for the cell.
-pub record AddAsks (t : Table) (m : Memory) (o : List ℕ) : Type 0 where
-  pub sound : Sound t m
-  pub outline : Placeable t m o
-  pub room : held m < places m
+-- The state is sound and accepts the cell, and the rows are its outline.
+pub record AddAsks (t : Table) (m : Memory) (x : ℕ) (o : List ℕ) : Type 0 where
+  pub offered : Offered t m x
+  pub rows : o ≡ outlineRows t x
 
--- The state left is scope's: the outline placed, then all pairs cancelled. The answer is the number of pairs; so many pairs of slots are
--- free again.
-pub record Added (t : Table) (m : Memory) (x : ℕ) (o : List ℕ) (pairs : ℕ) (m′ : Memory) : Type 0 where
-  pub left : m′ ≡ cancelled t (placed m x o) (slotsFor m o)
-  pub count : pairs ≡ length (metFirst t (placed m x o) [] (slotsFor m o))
-  pub free : length (freeSlots m′) + length o ≡ length (freeSlots m) + 2 * pairs
+-- The state left is scope's with one more cell. The answer is the number of pairs that cancelled: so many pairs of slots are free again.
+pub record Added (t : Table) (m : Memory) (x pairs : ℕ) (m′ : Memory) : Type 0 where
+  pub left : m′ ≡ taking t m x
+  pub free : length (freeSlots m′) + length (outlineRows t x) ≡ length (freeSlots m) + 2 * pairs

@@ -16,3 +16,4 @@ pub mod RowsMet
 pub mod PlacedSlots
 pub mod Counting
 pub mod Offering
+pub mod PoolAlone

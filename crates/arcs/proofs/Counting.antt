@@ -74,6 +74,6 @@ used-put (k ∷ ks) (v ∷ vs) l n f e h g =
     let here = h k (List·Memᴰ·head refl) in
     let more = used-more l n k (here .0) (here .1) v (here .2) (g v (List·Memᴰ·head refl)) in
     let rest = used-put ks vs (set l k v) n (f .1) (omega arith)
-        (λ a i. let w = h a (List·Memᴰ·tail i) in (w .0, rw length-set (w .1), getD-set-other l k a v 0 (λ z. f .0 (Memᴰ·cast (sym z) i)) ∙ w .2))
-        (λ w i. g w (List·Memᴰ·tail i)) in
+    (λ a i. let w = h a (List·Memᴰ·tail i) in (w .0, rw length-set (w .1), getD-set-other l k a v 0 (λ z. f .0 (Memᴰ·cast (sym z) i)) ∙ w .2))
+    (λ w i. g w (List·Memᴰ·tail i)) in
     omega arith

@@ -17,3 +17,4 @@ pub mod PlacedSlots
 pub mod Counting
 pub mod Offering
 pub mod PoolAlone
+pub mod Adding

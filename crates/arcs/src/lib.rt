@@ -2,6 +2,9 @@
 pub mod cancel;
 pub mod place;
 
+use cancel::cancel_rows;
+use place::hold_cell;
+use place::place_outline;
 use slices::clear32;
 use slices::clear64;
 use slices::put32;
@@ -11,7 +14,9 @@ ghost use mathlib.Core.List.{[], _∷_};
 ghost use Prim.Native.Nat.{_<_};
 ghost use lib.Dec.{leb};
 ghost use lib.ListN.{length};
+ghost use Rattle.scope.specs.Table.{table};
 ghost use Rattle.scope.specs.Memory.{memory, kept, opened};
+ghost use Rattle.arcs.specs.Taking.{AddAsks, Added};
 
 // The capacities of a pool.
 pub struct Pool {
@@ -20,7 +25,7 @@ pub struct Pool {
 }
 
 // The mode that a state keeps: 1 for mixed, 0 for even and for none named.
-fn kept_mode(mode: usize) -> usize
+pub fn kept_mode(mode: usize) -> usize
     ensures { λ r. ⌜ (r ≡ kept mode) × (r < 2) ⌝ }
 {
     let mixed = mode == 1;
@@ -34,6 +39,46 @@ fn open_head(head: &mut [u32], mode: usize)
 {
     put32(head, 0, kept_mode(mode));
     put32(head, 1, 0);
+}
+
+// Takes one more cell, whose outline is `rows`: the cell is held, its edges are put into the lowest free
+// slots, and what cancels leaves the pool. Answers how many pairs cancelled. `edges`, `area` and the marks
+// are here for the contract alone, which is about the whole table and state.
+pub fn add_edges(
+    edges: &[u64],
+    reverse: &[u32],
+    area: &[f64],
+    head: &mut [u32],
+    cells: &mut [u64],
+    parent: &mut [u32],
+    rank: &mut [u32],
+    cell_mark: &[u32],
+    slot_row: &mut [u32],
+    slot_cell: &mut [u32],
+    prev: &mut [u32],
+    next: &mut [u32],
+    row_slot: &mut [u32],
+    row_mark: &[u32],
+    rows: &[u32],
+    cell: u64,
+) -> usize
+    requires { ⌜ AddAsks (table (now edges) (now reverse) (now area)) (memory (now head) (now cells) (now parent) (now rank) (now «cell_mark») (now «slot_row») (now «slot_cell») (now prev) (now next) (now «row_slot») (now «row_mark»)) cell (now rows) ⌝ }
+    ensures { λ r. ⌜ Added (table (now (edges .entry)) (now (reverse .entry)) (now (area .entry))) (memory (now (head .entry)) (now (cells .entry)) (now (parent .entry)) (now (rank .entry)) (now («cell_mark» .entry)) (now («slot_row» .entry)) (now («slot_cell» .entry)) (now (prev .entry)) (now (next .entry)) (now («row_slot» .entry)) (now («row_mark» .entry))) cell r (memory (now (head .exit)) (now (cells .exit)) (now (parent .exit)) (now (rank .exit)) (now («cell_mark» .entry)) (now («slot_row» .exit)) (now («slot_cell» .exit)) (now (prev .exit)) (now (next .exit)) (now («row_slot» .exit)) (now («row_mark» .entry))) ⌝ }
+{
+    let place = hold_cell(head, cells, parent, rank, cell);
+    place_outline(slot_row, slot_cell, prev, next, row_slot, rows, place);
+    cancel_rows(
+        reverse,
+        parent,
+        rank,
+        slot_row,
+        slot_cell,
+        prev,
+        next,
+        row_slot,
+        rows,
+        place + 1,
+    )
 }
 
 impl Pool {

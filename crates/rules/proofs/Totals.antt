@@ -1,7 +1,7 @@
 -- The sums of ranks and of roots, as a loop adds them up: each rank fits 32 bits, so for fewer than 2^32 places the sums fit 64.
 -- Assumes nothing.
 use Prim.Native.Nat.{ℕ, _+_, _*_, _<_, _≤_, _^_}
-use mathlib.Core.Path.{_≡_, refl, _∙_}
+use mathlib.Core.Path.{_≡_, refl}
 use mathlib.Core.Bool.{Bool, true, false, cond, not}
 use mathlib.Core.List.{List}
 use native.Mathlib.Numerals.{add-one}

@@ -1,7 +1,7 @@
 -- The rules one by one, each over the slices that it reads, are the rules over the whole memory.
 -- Assumes nothing.
-use Prim.Native.Nat.{ℕ, _<_, _≤_}
-use mathlib.Core.Path.{_≡_, refl, sym}
+use Prim.Native.Nat.{ℕ, _≤_}
+use mathlib.Core.Path.{_≡_}
 use mathlib.Core.Bool.{Bool, true, false, _&&_, not}
 use mathlib.Core.List.{List, []}
 use lib.Dec.{leb}
@@ -11,9 +11,9 @@ use borrow.Author.Tests.{leb-true, not-true, not-false}
 use Rattle.scope.specs.Lists.{at, passes}
 use Rattle.scope.specs.Answers.{isAccepted}
 use Rattle.scope.specs.Cells.{resolutionOf}
-use Rattle.scope.specs.Table.{Table, table}
+use Rattle.scope.specs.Table.{table}
 use Rattle.scope.specs.CellLists.{listVerdict}
-use Rattle.scope.specs.Memory.{Memory, memory}
+use Rattle.scope.specs.Memory.{memory}
 use Rattle.scope.specs.Rules.{rowKept, linksKept, slotKept, clearedAt, parentKept, ranksKept, rulesKept}
 use Rattle.scope.proofs.Tests.{and-right}
 use Rattle.rules.specs.Slices.{rows, pool, forest}

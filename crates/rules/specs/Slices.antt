@@ -1,10 +1,7 @@
 -- Memories of which a rule reads some slices only; the others are left empty.
 -- Assumes nothing.
-use Prim.Native.Nat.{ℕ, _<_, _≤_}
-use mathlib.Core.Path.{_≡_}
+use Prim.Native.Nat.{ℕ}
 use mathlib.Core.List.{List, [], _∷_}
-use lib.ListN.{length}
-use Rattle.scope.specs.Lists.{at}
 use Rattle.scope.specs.Memory.{Memory, memory}
 
 abbrev pub rows : List ℕ → List ℕ → Memory

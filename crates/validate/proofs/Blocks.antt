@@ -4,21 +4,21 @@
 --     between         what stands between a cell and one that it lies under lies under that too
 --     under-trans     a cell under one that lies under a third lies under the third
 -- Assumes nothing.
-use mathlib.Core.Path.{_≡_, refl, _∙_, ap, sym, subst}
-use mathlib.Core.Bool.{Bool, true, false, _&&_}
+use mathlib.Core.Path.{_≡_, _∙_, ap, sym, subst}
+use mathlib.Core.Bool.{true}
 use Prim.Native.Nat.{ℕ, zero, suc, _+_, _-_, _*_, _/_, _%_, _^_, _<_, _≤_}
 use native.Mathlib.Nat.{div-add-mod', mod-lt}
 use native.Mathlib.Decide.{decLt}
 use native.Mathlib.Omega.{arith}
 use lib.Pow.{shr-shr, shr-mono, mod-mod-pow, mod-pow-add, pow-add, pow-pos}
-use lib.Dec.{eqb, leb, ltb}
+use lib.Dec.{ltb}
 use borrow.Author.Tests.{eq-eqb, lt-ltb, le-leb, eqb-true, ltb-true}
 use Rattle.scope.specs.Cells.{resolutionOf, weight, digit, under, validCell}
 use Rattle.scope.proofs.Tests.{and-left, and-right, and-both}
 use Rattle.scope.proofs.Cells.{cell-top, cell-fits, cell-after}
 use Rattle.index.proofs.Prefix.{under-at-once, low-digit}
+use Rattle.scope.proofs.Members.{cases}
 use Rattle.validate.specs.Sorting.{keyOf}
-use Rattle.validate.proofs.Swaps.{cases}
 
 -- how wide a cell's block is
 abbrev width : ℕ → ℕ

@@ -4,19 +4,18 @@
 --     found-start, found-more   the lowest clashes over more and more parts; found-second: over all of them
 -- Assumes nothing.
 use Prim.Native.Nat.{ℕ, _+_, _-_, _<_, _≤_, min}
-use mathlib.Core.Path.{_≡_, refl, sym, _∙_, ap, subst}
+use mathlib.Core.Path.{_≡_, refl, sym, _∙_, ap}
 use mathlib.Core.Bool.{Bool, true, false, _&&_, not, cond}
 use mathlib.Core.List.{List}
 use mathlib.Core.Logic.{⊎-elim}
 use native.Mathlib.Decide.{decLt}
 use native.Mathlib.Omega.{arith}
 use lib.Dec.{eqb, ltb}
-use lib.ListN.{length, take, drop, length-take, length-drop}
+use lib.ListN.{length, drop, length-take, length-drop}
 use lib.Seq.{getD-take, getD-drop}
 use borrow.Author.Tests.{lt-ltb, le-ltb, not-true, not-false}
 use Rattle.scope.specs.Lists.{at, firstBad, passes}
-use Rattle.scope.specs.Cells.{under}
-use Rattle.scope.specs.CellLists.{differs, firstOfItsKind, notUnder, underNone}
+use Rattle.scope.specs.CellLists.{differs, firstOfItsKind, notUnder}
 use Rattle.scope.proofs.Tests.{clash, same, le-or-lt}
 use Rattle.scope.proofs.Scan.{firstBad-lowest, firstBad-same, lowest-from, passes-at, passes-all, passes-not, passes-fails, Going}
 use Rattle.validate.specs.Sorting.{InOrder}

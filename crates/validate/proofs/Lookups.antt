@@ -1,21 +1,21 @@
 -- What the first place from a cell on tells: whether an equal cell is among the first of the part, and whether the cell lies under one of it.
 -- Assumes nothing.
-use Prim.Native.Nat.{ℕ, _+_, _*_, _^_, _<_, _≤_}
-use mathlib.Core.Path.{_≡_, refl, sym, _∙_, ap, subst}
+use Prim.Native.Nat.{ℕ, _^_, _<_, _≤_}
+use mathlib.Core.Path.{_≡_, sym, _∙_, ap}
 use mathlib.Core.Bool.{Bool, true, false, _&&_, _||_, not}
 use mathlib.Core.List.{List}
-use mathlib.Core.Logic.{_⊎_, inl, inr, ⊎-elim}
+use mathlib.Core.Logic.{⊎-elim}
 use native.Mathlib.Nat.{eq-or-lt-of-le}
 use native.Mathlib.Omega.{arith}
 use lib.Dec.{eqb, leb, ltb}
 use lib.ListN.{length}
-use borrow.Author.Tests.{eq-eqb, ne-eqb, lt-ltb, le-ltb, le-leb, lt-leb, eqb-true, eqb-false, ltb-true, ltb-false, leb-true, leb-false}
-use Rattle.scope.specs.Lists.{at, firstBad, passes}
+use borrow.Author.Tests.{eq-eqb, ne-eqb, lt-ltb, le-ltb, le-leb, lt-leb, eqb-true, eqb-false, ltb-true, ltb-false}
+use Rattle.scope.specs.Lists.{at, firstBad}
 use Rattle.scope.specs.Cells.{validCell, under}
 use Rattle.scope.specs.CellLists.{notUnder}
 use Rattle.scope.proofs.Tests.{either, clash, and-false, le-or-lt}
 use Rattle.scope.proofs.Scan.{firstBad-lowest, passes-all, passes-not}
-use Rattle.validate.specs.Sorting.{keyOf, rank, Perm, Sorted, place}
+use Rattle.validate.specs.Sorting.{keyOf, rank, place}
 use Rattle.validate.specs.Lookup.{Ascending, keyBelow, differsBefore, newTo, Ordered, LookedUp, clearOf, Raised, LookedOver}
 use Rattle.validate.proofs.Swaps.{place-is}
 use Rattle.validate.proofs.Ranks.{rank-key, rank-index}

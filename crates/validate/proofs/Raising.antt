@@ -3,23 +3,23 @@
 --     Raising            the loop's invariant: the places from p on are done
 --     raising-start, raising-more, raising-done     its moves; raising-index: the top is an index
 -- Assumes nothing.
-use Prim.Native.Nat.{ℕ, _+_, _-_, _<_, _≤_}
+use Prim.Native.Nat.{ℕ, _+_, _<_, _≤_}
 use mathlib.Core.Path.{_≡_, refl, sym, _∙_, ap, subst}
-use mathlib.Core.Bool.{Bool, true, false, _&&_, cond}
+use mathlib.Core.Bool.{true, false}
 use mathlib.Core.List.{List}
 use mathlib.Core.Logic.{_⊎_, inl, inr, ⊎-elim}
-use native.Mathlib.Nat.{eq-or-lt-of-le}
 use native.Mathlib.Omega.{arith}
-use lib.Dec.{eqb, ltb}
+use lib.Dec.{eqb}
 use lib.ListN.{length, set, length-set}
 use lib.Seq.{getD-set-same, getD-set-other}
 use borrow.Author.Tests.{lt-ltb, le-ltb, eqb-true, eqb-false}
 use Rattle.scope.specs.Lists.{at}
 use Rattle.scope.specs.Cells.{validCell, under}
 use Rattle.scope.proofs.Tests.{either, clash, le-or-lt}
+use Rattle.scope.proofs.Members.{cases}
 use Rattle.validate.specs.Sorting.{keyOf, place}
 use Rattle.validate.specs.Lookup.{Ordered, Raised, topOver}
-use Rattle.validate.proofs.Swaps.{cases, place-is}
+use Rattle.validate.proofs.Swaps.{place-is}
 use Rattle.validate.proofs.Blocks.{under-below, between, under-trans}
 use Rattle.validate.proofs.Lookups.{ordered-ascending}
 

@@ -1,7 +1,6 @@
 // Tests of a cell list, and of one cell against the held ones: refusals 2, 3, 4, the second 3 and 8, each with its index.
 // Nothing lent is written.
 ghost use mathlib.Core.Path.{_≡_};
-ghost use Prim.Native.Nat.{suc};
 ghost use lib.ListN.{length};
 ghost use Rattle.scope.specs.Lists.{firstBad, passes};
 ghost use Rattle.scope.specs.CellLists.{validAt, differs, resolutionFits, resolutionFitsAt, notUnder, notOver, roomFor, listVerdict, cellVerdict};

@@ -1,7 +1,6 @@
 // A list of any length goes by parts of at most 16,384 cells. Each part's indices are sorted in a local array, and every
 // cell of the list is looked up among them: n log n for one part, and n log n again for each further one.
 ghost use mathlib.Core.Path.{_≡_};
-ghost use mathlib.Core.Bool.{Bool};
 ghost use Prim.Native.Nat.{_+_, _≤_, _<_, min};
 ghost use lib.ListN.{length};
 ghost use Rattle.scope.specs.Lists.{firstBad};

@@ -80,7 +80,7 @@ laid-next rowSlot slotRow next rows i h =
     ap (λ (z : ℕ). laidIn rowSlot slotRow next rows z) (add-one i) ∙ ap (endToEnd (ringIn rowSlot slotRow next)) (take-suc rows i 0 h)
     ∙ end-last (ringIn rowSlot slotRow next) (take i rows) (at rows i)
 
-laid-count : (rowSlot slotRow next rows : List ℕ) (i : ℕ) → i < length rows
+pub laid-count : (rowSlot slotRow next rows : List ℕ) (i : ℕ) → i < length rows
     → length (laidIn rowSlot slotRow next rows (i + 1)) ≡ length (laidIn rowSlot slotRow next rows i) + length (ringIn rowSlot slotRow next (at rows i))
 laid-count rowSlot slotRow next rows i h = ap length (laid-next rowSlot slotRow next rows i h) ∙ length-append (laidIn rowSlot slotRow next rows i) (ringIn rowSlot slotRow next (at rows i))
 

@@ -7,3 +7,9 @@ pub mod Laying
 pub mod Areas
 pub mod Paths
 pub mod Painting
+pub mod Layouts
+pub mod Matching
+pub mod Surveys
+pub mod Writing
+pub mod Outputs
+pub mod Building

@@ -60,3 +60,15 @@ pub record AreasReady (terms : List Float) (edges start size : List ℕ) (area :
   pub sizes : n ≤ length size
   pub room : n ≤ length area
   pub ready : (i : ℕ) → i < n → AreaReady terms edges (at start i) (at start i + at size i)
+
+-- ---- rings laid out, with their areas
+
+pub record OutReady (rowSlot slotRow next : List ℕ) (terms : List Float) (rows : List ℕ) (n : ℕ) (edges start size : List ℕ) (area : List Float) : Type 0 where
+  pub lay : LayAllReady rowSlot slotRow next rows n edges start size
+  pub term-count : length terms ≡ length rowSlot
+  pub area-room : n ≤ length area
+
+pub record LaidOut (rowSlot slotRow next : List ℕ) (terms : List Float) (rows : List ℕ) (n : ℕ) (edges start size : List ℕ) (area : List Float)
+    (edges′ start′ size′ : List ℕ) (area′ : List Float) : Type 0 where
+  pub laid : LaidAll rowSlot slotRow next rows n edges start size edges′ start′ size′
+  pub areas : Filling nan (λ i. areaOf (termsOf terms (ringIn rowSlot slotRow next (at rows i)))) area area′ n

@@ -3,3 +3,5 @@ pub mod Links
 pub mod Marking
 pub mod Laying
 pub mod Grouping
+pub mod Views
+pub mod Build

@@ -4,7 +4,7 @@ ghost use lib.Ieee.{nan};
 ghost use lib.Seq.{slice};
 ghost use Rattle.scope.specs.Area.{areaOf};
 ghost use Rattle.ring_order.specs.Fill.{Filling};
-ghost use Rattle.rings.specs.Laying.{LayReady, Laid, LayAllReady, LaidAll, termsOf, AreaReady, areaLaid, AreasReady};
+ghost use Rattle.rings.specs.Laying.{LayReady, Laid, LayAllReady, LaidAll, termsOf, AreaReady, areaLaid, AreasReady, OutReady, LaidOut};
 use crate::walk::next_row;
 use fp_adder::FloatAdder;
 use slices::get32;
@@ -35,7 +35,7 @@ fn lay_ring(
 }
 
 // Writes the rings of the n rows end to end, with the start and the length of each.
-pub(crate) fn lay_rings(
+fn lay_rings(
     row_slot: &[u32],
     slot_row: &[u32],
     next: &[u32],
@@ -75,14 +75,7 @@ fn ring_area(terms: &[f64], edges: &[u32], from: usize, to: usize) -> f64
 }
 
 // The areas of the n rings that are laid end to end.
-pub(crate) fn ring_areas(
-    terms: &[f64],
-    edges: &[u32],
-    start: &[u32],
-    size: &[u32],
-    area: &mut [f64],
-    n: usize,
-)
+fn ring_areas(terms: &[f64], edges: &[u32], start: &[u32], size: &[u32], area: &mut [f64], n: usize)
     requires { ⌜ AreasReady (now terms) (now edges) (now start) (now size) (now area) n ⌝ }
     ensures { λ _. ⌜ Filling nan (areaLaid (now (terms .entry)) (now (edges .entry)) (now (start .entry)) (now (size .entry))) (now (area .entry)) (now (area .exit)) n ⌝ }
 {
@@ -92,4 +85,24 @@ pub(crate) fn ring_areas(
         area[i] = ring_area(terms, edges, from, from + get32(size, i));
         i += 1;
     }
+}
+
+// Lays the rings of the n rows end to end, with the start, the length and the area of each.
+pub(crate) fn lay_out(
+    row_slot: &[u32],
+    slot_row: &[u32],
+    next: &[u32],
+    terms: &[f64],
+    rows: &[u32],
+    n: usize,
+    edges: &mut [u32],
+    start: &mut [u32],
+    size: &mut [u32],
+    area: &mut [f64],
+)
+    requires { ⌜ OutReady (now «row_slot») (now «slot_row») (now next) (now terms) (now rows) n (now edges) (now start) (now size) (now area) ⌝ }
+    ensures { λ _. ⌜ LaidOut (now («row_slot» .entry)) (now («slot_row» .entry)) (now (next .entry)) (now (terms .entry)) (now (rows .entry)) n (now (edges .entry)) (now (start .entry)) (now (size .entry)) (now (area .entry)) (now (edges .exit)) (now (start .exit)) (now (size .exit)) (now (area .exit)) ⌝ }
+{
+    lay_rings(row_slot, slot_row, next, rows, n, edges, start, size);
+    ring_areas(terms, edges, start, size, area, n);
 }

@@ -87,3 +87,4 @@ pub mod DissolveRuns
 pub mod ViewsAlike
 pub mod ShownAfresh
 pub mod WhateverOrder
+pub mod Over

@@ -68,7 +68,9 @@ pub(crate) fn ring_groups(
     n: usize,
 )
     requires { ⌜ RingGroupsReady (now «row_slot») (now «slot_cell») (now mark) (now rows) (now out) n ⌝ }
-    ensures { λ _. ⌜ Filling 0 (λ i. markedGroup (now («row_slot» .entry)) (now («slot_cell» .entry)) (now (mark .entry)) (at (now (rows .entry)) i)) (now (out .entry)) (now (out .exit)) n ⌝ }
+    ensures { λ _. ⌜ Filling 0
+        (λ i. markedGroup (now («row_slot» .entry)) (now («slot_cell» .entry)) (now (mark .entry)) (at (now (rows .entry)) i))
+        (now (out .entry)) (now (out .exit)) n ⌝ }
 {
     let mut i: usize = 0;
     while i < n {

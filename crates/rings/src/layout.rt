@@ -20,7 +20,8 @@ fn lay_ring(
     r: usize,
 ) -> usize
     requires { ⌜ LayReady (now «row_slot») (now «slot_row») (now next) (now out) from r ⌝ }
-    ensures { λ k. ⌜ Laid (now («row_slot» .entry)) (now («slot_row» .entry)) (now (next .entry)) (now (out .entry)) from r (now (out .exit)) k ⌝ }
+    ensures { λ k. ⌜ Laid (now («row_slot» .entry)) (now («slot_row» .entry)) (now (next .entry))
+        (now (out .entry)) from r (now (out .exit)) k ⌝ }
 {
     let mut k: usize = 0;
     let mut x = r;
@@ -46,7 +47,10 @@ fn lay_rings(
     size: &mut [u32],
 )
     requires { ⌜ LayAllReady (now «row_slot») (now «slot_row») (now next) (now rows) n (now edges) (now start) (now size) ⌝ }
-    ensures { λ _. ⌜ LaidAll (now («row_slot» .entry)) (now («slot_row» .entry)) (now (next .entry)) (now (rows .entry)) n (now (edges .entry)) (now (start .entry)) (now (size .entry)) (now (edges .exit)) (now (start .exit)) (now (size .exit)) ⌝ }
+    ensures { λ _. ⌜ LaidAll
+        (now («row_slot» .entry)) (now («slot_row» .entry)) (now (next .entry)) (now (rows .entry)) n
+        (now (edges .entry)) (now (start .entry)) (now (size .entry))
+        (now (edges .exit)) (now (start .exit)) (now (size .exit)) ⌝ }
 {
     let mut i: usize = 0;
     let mut k: usize = 0;
@@ -77,7 +81,9 @@ fn ring_area(terms: &[f64], edges: &[u32], from: usize, to: usize) -> f64
 // The areas of the n rings that are laid end to end.
 fn ring_areas(terms: &[f64], edges: &[u32], start: &[u32], size: &[u32], area: &mut [f64], n: usize)
     requires { ⌜ AreasReady (now terms) (now edges) (now start) (now size) (now area) n ⌝ }
-    ensures { λ _. ⌜ Filling nan (areaLaid (now (terms .entry)) (now (edges .entry)) (now (start .entry)) (now (size .entry))) (now (area .entry)) (now (area .exit)) n ⌝ }
+    ensures { λ _. ⌜ Filling nan
+        (areaLaid (now (terms .entry)) (now (edges .entry)) (now (start .entry)) (now (size .entry)))
+        (now (area .entry)) (now (area .exit)) n ⌝ }
 {
     let mut i: usize = 0;
     while i < n {
@@ -100,8 +106,12 @@ pub(crate) fn lay_out(
     size: &mut [u32],
     area: &mut [f64],
 )
-    requires { ⌜ OutReady (now «row_slot») (now «slot_row») (now next) (now terms) (now rows) n (now edges) (now start) (now size) (now area) ⌝ }
-    ensures { λ _. ⌜ LaidOut (now («row_slot» .entry)) (now («slot_row» .entry)) (now (next .entry)) (now (terms .entry)) (now (rows .entry)) n (now (edges .entry)) (now (start .entry)) (now (size .entry)) (now (area .entry)) (now (edges .exit)) (now (start .exit)) (now (size .exit)) (now (area .exit)) ⌝ }
+    requires { ⌜ OutReady (now «row_slot») (now «slot_row») (now next) (now terms) (now rows) n
+        (now edges) (now start) (now size) (now area) ⌝ }
+    ensures { λ _. ⌜ LaidOut
+        (now («row_slot» .entry)) (now («slot_row» .entry)) (now (next .entry)) (now (terms .entry)) (now (rows .entry)) n
+        (now (edges .entry)) (now (start .entry)) (now (size .entry)) (now (area .entry))
+        (now (edges .exit)) (now (start .exit)) (now (size .exit)) (now (area .exit)) ⌝ }
 {
     lay_rings(row_slot, slot_row, next, rows, n, edges, start, size);
     ring_areas(terms, edges, start, size, area, n);

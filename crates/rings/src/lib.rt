@@ -41,8 +41,16 @@ fn survey_rings(
     held: usize,
     n: usize,
 )
-    requires { ⌜ SurveyReady (viewOf (now «row_slot») (now «slot_row») (now «slot_cell») (now next) (now parent) held (now terms)) (now «row_mark») (now «cell_mark») (now edges) (now size) (now rows) (now group) (now area) n ⌝ }
-    ensures { λ _. ⌜ Surveyed (viewOf (now («row_slot» .entry)) (now («slot_row» .entry)) (now («slot_cell» .entry)) (now (next .entry)) (now (parent .entry)) held (now (terms .entry))) (now («row_mark» .entry)) (now («cell_mark» .entry)) (now (edges .entry)) (now (size .entry)) (now (rows .entry)) (now (group .entry)) (now (area .entry)) n (now («row_mark» .exit)) (now («cell_mark» .exit)) (now (edges .exit)) (now (size .exit)) (now (rows .exit)) (now (group .exit)) (now (area .exit)) ⌝ }
+    requires { ⌜ SurveyReady
+        (viewOf (now «row_slot») (now «slot_row») (now «slot_cell») (now next) (now parent) held (now terms))
+        (now «row_mark») (now «cell_mark») (now edges) (now size) (now rows) (now group) (now area) n ⌝ }
+    ensures { λ _. ⌜ Surveyed
+        (viewOf (now («row_slot» .entry)) (now («slot_row» .entry)) (now («slot_cell» .entry)) (now (next .entry))
+        (now (parent .entry)) held (now (terms .entry)))
+        (now («row_mark» .entry)) (now («cell_mark» .entry)) (now (edges .entry)) (now (size .entry)) (now (rows .entry))
+        (now (group .entry)) (now (area .entry)) n
+        (now («row_mark» .exit)) (now («cell_mark» .exit)) (now (edges .exit)) (now (size .exit)) (now (rows .exit))
+        (now (group .exit)) (now (area .exit)) ⌝ }
 {
     list_rings(row_mark, rows);
     clear32(row_mark);
@@ -95,8 +103,17 @@ fn write_rings(
     held: usize,
     n: usize,
 ) -> ReadOut
-    requires { ⌜ WriteReady (viewOf (now «row_slot») (now «slot_row») (now «slot_cell») (now next) (now parent) held (now terms)) (now «row_mark») (now «cell_mark») (output (now start) (now size) (now group) (now area) (now edges)) n ⌝ }
-    ensures { λ r. ⌜ Wrote (viewOf (now («row_slot» .entry)) (now («slot_row» .entry)) (now («slot_cell» .entry)) (now (next .entry)) (now (parent .entry)) held (now (terms .entry))) (now («row_mark» .entry)) (now («cell_mark» .entry)) (output (now (start .entry)) (now (size .entry)) (now (group .entry)) (now (area .entry)) (now (edges .entry))) (now («row_mark» .exit)) (now («cell_mark» .exit)) (output (now (start .exit)) (now (size .exit)) (now (group .exit)) (now (area .exit)) (now (edges .exit))) r ⌝ }
+    requires { ⌜ WriteReady
+        (viewOf (now «row_slot») (now «slot_row») (now «slot_cell») (now next) (now parent) held (now terms))
+        (now «row_mark») (now «cell_mark»)
+        (output (now start) (now size) (now group) (now area) (now edges)) n ⌝ }
+    ensures { λ r. ⌜ Wrote
+        (viewOf (now («row_slot» .entry)) (now («slot_row» .entry)) (now («slot_cell» .entry)) (now (next .entry))
+        (now (parent .entry)) held (now (terms .entry)))
+        (now («row_mark» .entry)) (now («cell_mark» .entry))
+        (output (now (start .entry)) (now (size .entry)) (now (group .entry)) (now (area .entry)) (now (edges .entry)))
+        (now («row_mark» .exit)) (now («cell_mark» .exit))
+        (output (now (start .exit)) (now (size .exit)) (now (group .exit)) (now (area .exit)) (now (edges .exit))) r ⌝ }
 {
     // By number: the rows in group, the groups in start. In their order: the numbers in edges, the rows in row_mark.
     survey_rings(
@@ -159,8 +176,17 @@ pub fn build_rings(
     edges: &mut [u32],
     held: usize,
 ) -> ReadOut
-    requires { ⌜ BuildReady (viewOf (now «row_slot») (now «slot_row») (now «slot_cell») (now next) (now parent) held (now terms)) (now «row_mark») (now «cell_mark») (output (now start) (now size) (now group) (now area) (now edges)) ⌝ }
-    ensures { λ r. ⌜ Built (viewOf (now («row_slot» .entry)) (now («slot_row» .entry)) (now («slot_cell» .entry)) (now (next .entry)) (now (parent .entry)) held (now (terms .entry))) (now («row_mark» .entry)) (now («cell_mark» .entry)) (output (now (start .entry)) (now (size .entry)) (now (group .entry)) (now (area .entry)) (now (edges .entry))) (now («row_mark» .exit)) (now («cell_mark» .exit)) (output (now (start .exit)) (now (size .exit)) (now (group .exit)) (now (area .exit)) (now (edges .exit))) r ⌝ }
+    requires { ⌜ BuildReady
+        (viewOf (now «row_slot») (now «slot_row») (now «slot_cell») (now next) (now parent) held (now terms))
+        (now «row_mark») (now «cell_mark»)
+        (output (now start) (now size) (now group) (now area) (now edges)) ⌝ }
+    ensures { λ r. ⌜ Built
+        (viewOf (now («row_slot» .entry)) (now («slot_row» .entry)) (now («slot_cell» .entry)) (now (next .entry))
+        (now (parent .entry)) held (now (terms .entry)))
+        (now («row_mark» .entry)) (now («cell_mark» .entry))
+        (output (now (start .entry)) (now (size .entry)) (now (group .entry)) (now (area .entry)) (now (edges .entry)))
+        (now («row_mark» .exit)) (now («cell_mark» .exit))
+        (output (now (start .exit)) (now (size .exit)) (now (group .exit)) (now (area .exit)) (now (edges .exit))) r ⌝ }
 {
     let counts = count_rings(row_slot, slot_row, next, row_mark);
     let rings = counts.rings;

@@ -20,7 +20,8 @@ pub(crate) fn next_row(row_slot: &[u32], slot_row: &[u32], next: &[u32], r: usiz
 // Marks the rows of r's ring with 1, and r itself with 2; the answer is how many there are.
 fn mark_ring(row_slot: &[u32], slot_row: &[u32], next: &[u32], mark: &mut [u32], r: usize) -> usize
     requires { ⌜ MarkReady (now «row_slot») (now «slot_row») (now next) (now mark) r ⌝ }
-    ensures { λ k. ⌜ Marked (now («row_slot» .entry)) (now («slot_row» .entry)) (now (next .entry)) (now (mark .entry)) r (now (mark .exit)) k ⌝ }
+    ensures { λ k. ⌜ Marked (now («row_slot» .entry)) (now («slot_row» .entry)) (now (next .entry))
+        (now (mark .entry)) r (now (mark .exit)) k ⌝ }
 {
     let mut k: usize = 0;
     let mut x = r;
@@ -56,7 +57,8 @@ pub(crate) fn count_rings(
     mark: &mut [u32],
 ) -> Counts
     requires { ⌜ CountReady (now «row_slot») (now «slot_row») (now next) (now mark) ⌝ }
-    ensures { λ c. ⌜ Counted (now («row_slot» .entry)) (now («slot_row» .entry)) (now (next .entry)) (now (mark .entry)) (now (mark .exit)) (c .rings) (c .edges) ⌝ }
+    ensures { λ c. ⌜ Counted (now («row_slot» .entry)) (now («slot_row» .entry)) (now (next .entry))
+        (now (mark .entry)) (now (mark .exit)) (c .rings) (c .edges) ⌝ }
 {
     let mut rings: usize = 0;
     let mut edges: usize = 0;

@@ -7,7 +7,7 @@ ghost use Prim.Native.Nat.{_<_, _≤_};
 ghost use lib.ListN.{length};
 ghost use Rattle.scope.specs.Lists.{at};
 ghost use Rattle.scope.proofs.Outlines.{onward};
-ghost use Rattle.arcs.specs.Place.{freeFrom, PlaceAsks, PlacedRows, slotsAt, SlotAsks, LinkAsks, LinkedRows};
+ghost use Rattle.arcs.specs.Place.{freeIn, freeFrom, PlaceAsks, PlacedRows, slotsAt, SlotAsks, LinkAsks, LinkedRows};
 ghost use Rattle.arcs.specs.Taking.{HoldAsks, CellHeld, OutlineAsks, OutlinePlaced};
 
 // The lowest free slot from `start` on, or the pool's size where there is none.
@@ -114,4 +114,19 @@ pub fn hold_cell(
     cells[place] = cell;
     add(parent, rank, place);
     place
+}
+
+// How many slots are free.
+pub fn count_free(slot_row: &[u32]) -> usize
+    ensures { λ r. ⌜ r ≡ length (freeIn (now («slot_row» .entry))) ⌝ }
+{
+    let mut free = 0;
+    let mut i = 0;
+    while i < slot_row.len() {
+        if get32(slot_row, i) == 0 {
+            free += 1;
+        }
+        i += 1;
+    }
+    free
 }

@@ -18,7 +18,11 @@ same-length : tie.Need-same-length
 same-length c = search needs
 
 returns : tie.Need-returns
-returns c = let a = c .before .before .before .before .before .before .before .before .before .before .args in head-stored (a .head .now) (a .mode) (c .before .before .before .before .before .before .before .kept-mode .ensures .0) (c .before .before .before .before .before .before .put32 .ensures) (c .before .before .put322 .ensures) (c .before .before .before .before .before .before .before .before .before .before .pre)
+returns c =
+    let at-put32 = c .before .before .before .before .before .before in
+    let at-kept-mode = at-put32 .before in
+    let start = at-kept-mode .before .before .before in
+    let a = start .args in head-stored (a .head .now) (a .mode) (at-kept-mode .kept-mode .ensures .0) (at-put32 .put32 .ensures) (c .before .before .put322 .ensures) (start .pre)
 
 pub open-head-spec : {M : Type 1} → statement M
 open-head-spec =

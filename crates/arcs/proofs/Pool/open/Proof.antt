@@ -74,9 +74,20 @@ same-length-11 c = search needs
 
 returns : tie.Need-returns
 returns c =
-    let a = c .before .before .before .before .before .before .before .before .before .before .before .before .before .before .before .before .before .before .before .before .before .before .before .before .before .before .before .before .before .before .before .before .before .before .before .before .before .before .before .before .before .before .before .before .before .before .before .before .before .before .before .before .before .before .before .args in
+    let at-clear328 = c .before .before .before .before .before .before in
+    let at-clear327 = at-clear328 .before .before .before .before in
+    let at-clear326 = at-clear327 .before .before .before .before in
+    let at-clear325 = at-clear326 .before .before .before .before in
+    let at-clear324 = at-clear325 .before .before .before .before in
+    let at-clear323 = at-clear324 .before .before .before .before in
+    let at-clear322 = at-clear323 .before .before .before .before in
+    let at-clear32 = at-clear322 .before .before .before .before in
+    let at-clear64 = at-clear32 .before .before .before .before in
+    let at-open-head = at-clear64 .before .before .before .before in
+    let start = at-open-head .before .before .before .before .before .before .before .before .before .before .before .before .before in
+    let a = start .args in
     all-cleared (memory (a .head .now) (a .cells .now) (a .parent .now) (a .rank .now) (a .cell-mark .now) (a .slot-row .now) (a .slot-cell .now) (a .prev .now) (a .next .now) (a .row-slot .now) (a .row-mark .now)) (a .mode)
-    (c .before .before .before .before .before .before .before .before .before .before .before .before .before .before .before .before .before .before .before .before .before .before .before .before .before .before .before .before .before .before .before .before .before .before .before .before .before .before .before .before .before .before .open-head .ensures) (c .before .before .before .before .before .before .before .before .before .before .before .before .before .before .before .before .before .before .before .before .before .before .before .before .before .before .before .before .before .before .before .before .before .before .before .before .before .before .clear64 .ensures) (c .before .before .before .before .before .before .before .before .before .before .before .before .before .before .before .before .before .before .before .before .before .before .before .before .before .before .before .before .before .before .before .before .before .before .clear32 .ensures) (c .before .before .before .before .before .before .before .before .before .before .before .before .before .before .before .before .before .before .before .before .before .before .before .before .before .before .before .before .before .before .clear322 .ensures) (c .before .before .before .before .before .before .before .before .before .before .before .before .before .before .before .before .before .before .before .before .before .before .before .before .before .before .clear323 .ensures) (c .before .before .before .before .before .before .before .before .before .before .before .before .before .before .before .before .before .before .before .before .before .before .clear324 .ensures) (c .before .before .before .before .before .before .before .before .before .before .before .before .before .before .before .before .before .before .clear325 .ensures) (c .before .before .before .before .before .before .before .before .before .before .before .before .before .before .clear326 .ensures) (c .before .before .before .before .before .before .before .before .before .before .clear327 .ensures) (c .before .before .before .before .before .before .clear328 .ensures) (c .before .before .clear329 .ensures)
+    (at-open-head .open-head .ensures) (at-clear64 .clear64 .ensures) (at-clear32 .clear32 .ensures) (at-clear322 .clear322 .ensures) (at-clear323 .clear323 .ensures) (at-clear324 .clear324 .ensures) (at-clear325 .clear325 .ensures) (at-clear326 .clear326 .ensures) (at-clear327 .clear327 .ensures) (at-clear328 .clear328 .ensures) (c .before .before .clear329 .ensures)
 
 pub open-spec : {M : Type 1} → statement M
 open-spec =

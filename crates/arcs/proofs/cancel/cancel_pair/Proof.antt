@@ -25,13 +25,27 @@ get32-requires-4 : tie.Need-get32-requires-4
 get32-requires-4 c κs = search needs
 
 union-requires : tie.Need-union-requires
-union-requires c κs = union-asks (c .before .before .before .before .before .before .before .before .before .before .before .before .before .before .before .before .before .pre) (c .before .before .before .before .before .before .before .before .get32 .result) (c .before .before .before .before .before .before .get322 .result) (c .before .before .before .before .before .before .before .before .get32 .ensures .0) (c .before .before .before .before .before .before .get322 .ensures .0) (c .before .before .before .before .get323 .result) (c .before .before .get324 .result) (c .before .before .before .before .get323 .ensures .0) (c .before .before .get324 .ensures .0)
+union-requires c κs =
+    let at-get323 = c .before .before .before .before in
+    let at-get322 = at-get323 .before .before in
+    let at-get32 = at-get322 .before .before in
+    let start = at-get32 .before .before .before .before .before .before .before .before .before in
+    union-asks (start .pre) (at-get32 .get32 .result) (at-get322 .get322 .result) (at-get32 .get32 .ensures .0) (at-get322 .get322 .ensures .0) (at-get323 .get323 .result) (c .before .before .get324 .result) (at-get323 .get323 .ensures .0) (c .before .before .get324 .ensures .0)
 
 merge-arcs-requires : tie.Need-merge-arcs-requires
-merge-arcs-requires c κs = merge-asks (c .before .before .before .before .before .before .before .before .before .before .before .before .before .before .before .before .before .before .before .before .before .before .before .before .pre) (c .before .before .before .before .before .before .before .before .before .before .before .before .before .before .before .get32 .result) (c .before .before .before .before .before .before .before .before .before .before .before .before .before .get322 .result) (c .before .before .before .before .before .before .before .before .before .before .before .before .before .before .before .get32 .ensures .0) (c .before .before .before .before .before .before .before .before .before .before .before .before .before .get322 .ensures .0)
+merge-arcs-requires c κs =
+    let at-get322 = c .before .before .before .before .before .before .before .before .before .before .before .before .before in
+    let at-get32 = at-get322 .before .before in
+    let start = at-get32 .before .before .before .before .before .before .before .before .before in
+    merge-asks (start .pre) (at-get32 .get32 .result) (at-get322 .get322 .result) (at-get32 .get32 .ensures .0) (at-get322 .get322 .ensures .0)
 
 free-pair-requires : tie.Need-free-pair-requires
-free-pair-requires c κs = free-asks (c .before .before .before .before .before .before .before .before .before .before .before .before .before .before .before .before .before .before .before .before .before .before .before .before .before .before .before .before .before .before .before .before .before .before .pre) (c .before .before .before .before .before .before .before .before .before .before .before .before .before .before .before .before .before .before .before .before .before .before .before .before .before .get32 .result) (c .before .before .before .before .before .before .before .before .before .before .before .before .before .before .before .before .before .before .before .before .before .before .before .get322 .result) (c .before .before .before .before .before .before .before .before .before .before .before .before .before .before .before .before .before .before .before .before .before .before .before .before .before .get32 .ensures .0) (c .before .before .before .before .before .before .before .before .before .before .before .before .before .before .before .before .before .before .before .before .before .before .before .get322 .ensures .0) (c .before .before .before .before .before .before .before .before .before .merge-arcs .last .0) (c .before .before .before .before .before .before .before .before .before .merge-arcs .last .1 .0) (c .before .before .before .before .before .before .before .before .before .merge-arcs .kept .0) (c .before .before .before .before .before .before .before .before .before .merge-arcs .kept .1 .0)
+free-pair-requires c κs =
+    let at-merge-arcs = c .before .before .before .before .before .before .before .before .before in
+    let at-get322 = at-merge-arcs .before .before .before .before .before .before .before .before .before .before .before .before .before .before in
+    let at-get32 = at-get322 .before .before in
+    let start = at-get32 .before .before .before .before .before .before .before .before .before in
+    free-asks (start .pre) (at-get32 .get32 .result) (at-get322 .get322 .result) (at-get32 .get32 .ensures .0) (at-get322 .get322 .ensures .0) (at-merge-arcs .merge-arcs .last .0) (at-merge-arcs .merge-arcs .last .1 .0) (at-merge-arcs .merge-arcs .kept .0) (at-merge-arcs .merge-arcs .kept .1 .0)
 
 same-length : tie.Need-same-length
 same-length c = search needs
@@ -56,10 +70,18 @@ same-length-7 c = search needs
 
 returns : tie.Need-returns
 returns c =
-    pair-done (c .before .before .before .before .before .before .before .before .before .before .before .before .before .before .before .before .before .before .before .before .before .before .before .before .before .before .before .before .before .before .before .before .before .before .before .before .before .before .before .before .before .before .before .before .before .pre) (c .before .before .before .before .before .before .before .before .before .before .before .before .before .before .before .before .before .before .before .before .before .before .before .before .before .before .before .before .before .before .before .before .before .before .before .before .get32 .result) (c .before .before .before .before .before .before .before .before .before .before .before .before .before .before .before .before .before .before .before .before .before .before .before .before .before .before .before .before .before .before .before .before .before .before .get322 .result) (c .before .before .before .before .before .before .before .before .before .before .before .before .before .before .before .before .before .before .before .before .before .before .before .before .before .before .before .before .before .before .before .before .before .before .before .before .get32 .ensures .0) (c .before .before .before .before .before .before .before .before .before .before .before .before .before .before .before .before .before .before .before .before .before .before .before .before .before .before .before .before .before .before .before .before .before .before .get322 .ensures .0) (c .before .before .before .before .before .before .before .before .before .before .before .before .before .before .before .before .before .before .before .before .before .before .before .before .before .before .before .before .before .before .before .before .get323 .result) (c .before .before .before .before .before .before .before .before .before .before .before .before .before .before .before .before .before .before .before .before .before .before .before .before .before .before .before .before .before .before .get324 .result) (c .before .before .before .before .before .before .before .before .before .before .before .before .before .before .before .before .before .before .before .before .before .before .before .before .before .before .before .before .before .before .before .before .get323 .ensures .0) (c .before .before .before .before .before .before .before .before .before .before .before .before .before .before .before .before .before .before .before .before .before .before .before .before .before .before .before .before .before .before .get324 .ensures .0) (c .before .before .before .before .before .before .before .before .before .before .before .before .before .before .before .before .before .before .before .before .merge-arcs .last .0) (c .before .before .before .before .before .before .before .before .before .before .before .before .before .before .before .before .before .before .before .before .merge-arcs .last .1 .0)
-    (pool (c .before .before .before .before .before .before .before .before .before .before .before .before .before .before .before .before .before .before .before .before .before .before .before .before .before .before .before .union .last .0) (c .before .before .before .before .before .before .before .before .before .before .before .before .before .before .before .before .before .before .before .before .before .before .before .before .before .before .before .union .last .1 .0) (c .before .before .before .before .before .before .before .before .before .before .free-pair .last .0) (c .before .before .before .before .before .before .before .before .before .before .free-pair .last .1 .0) (c .before .before .before .before .before .before .before .before .before .before .free-pair .last .1 .1 .0) (c .before .before .before .before .before .before .before .before .before .before .free-pair .last .1 .1 .1 .0) (c .before .before .before .before .before .before .before .before .before .before .free-pair .last .1 .1 .1 .1 .0))
-    (c .before .before .before .before .before .before .before .before .before .before .before .before .before .before .before .before .before .before .before .before .before .before .before .before .before .before .before .union .kept .0) (c .before .before .before .before .before .before .before .before .before .before .before .before .before .before .before .before .before .before .before .before .before .before .before .before .before .before .before .union .kept .1 .0)
-    (c .before .before .before .before .before .before .before .before .before .before .before .before .before .before .before .before .before .before .before .before .before .before .before .before .before .before .before .union .ensures) (c .before .before .before .before .before .before .before .before .before .before .before .before .before .before .before .before .before .before .before .before .merge-arcs .ensures .0) (c .before .before .before .before .before .before .before .before .before .before .before .before .before .before .before .before .before .before .before .before .merge-arcs .ensures .1) (c .before .before .before .before .before .before .before .before .before .before .free-pair .ensures)
+    let at-free-pair = c .before .before .before .before .before .before .before .before .before .before in
+    let at-merge-arcs = at-free-pair .before .before .before .before .before .before .before .before .before .before in
+    let at-union = at-merge-arcs .before .before .before .before .before .before .before in
+    let at-get324 = at-union .before .before .before in
+    let at-get323 = at-get324 .before .before in
+    let at-get322 = at-get323 .before .before in
+    let at-get32 = at-get322 .before .before in
+    let start = at-get32 .before .before .before .before .before .before .before .before .before in
+    pair-done (start .pre) (at-get32 .get32 .result) (at-get322 .get322 .result) (at-get32 .get32 .ensures .0) (at-get322 .get322 .ensures .0) (at-get323 .get323 .result) (at-get324 .get324 .result) (at-get323 .get323 .ensures .0) (at-get324 .get324 .ensures .0) (at-merge-arcs .merge-arcs .last .0) (at-merge-arcs .merge-arcs .last .1 .0)
+    (pool (at-union .union .last .0) (at-union .union .last .1 .0) (at-free-pair .free-pair .last .0) (at-free-pair .free-pair .last .1 .0) (at-free-pair .free-pair .last .1 .1 .0) (at-free-pair .free-pair .last .1 .1 .1 .0) (at-free-pair .free-pair .last .1 .1 .1 .1 .0))
+    (at-union .union .kept .0) (at-union .union .kept .1 .0)
+    (at-union .union .ensures) (at-merge-arcs .merge-arcs .ensures .0) (at-merge-arcs .merge-arcs .ensures .1) (at-free-pair .free-pair .ensures)
 
 pub cancel-pair-spec : {M : Type 1} → statement M
 cancel-pair-spec =

@@ -19,13 +19,20 @@ abbrev μ-loop : tie.MeasureT-loop
 μ-loop reverse parent₀ rank₀ slot-row₀ slot-cell₀ prev₀ next₀ row-slot₀ rows held pairs₀ i₀ parent rank slot-row slot-cell prev next row-slot pairs i = length rows - i
 
 loop-holds : tie.Need-loop-holds Inv-loop μ-loop
-loop-holds c = meeting-start (c .before .before .before .before .before .before .before .before .before .pre)
+loop-holds c =
+    let start = c .before .before .before .before .before .before .before .before .before in
+    meeting-start (start .pre)
 
 get32-requires : tie.Need-get32-requires Inv-loop μ-loop
 get32-requires c κs = search needs
 
 cancel-row-requires : tie.Need-cancel-row-requires Inv-loop μ-loop
-cancel-row-requires c κs = row-asks (c .before .before .before .before .before .before .before .before .before .before .before .before .before .before .before .before .before .before .before .pre) (c .before .before .before .before .before .before .before .before .before .loop .inv) (c .before .before .before .before .before .before .before .before .loop-test .taken) (c .before .before .before .before .before .before .before .get32 .ensures .0)
+cancel-row-requires c κs =
+    let at-get32 = c .before .before .before .before .before .before .before in
+    let test = at-get32 .before in
+    let loop = test .before in
+    let start = loop .before .before .before .before .before .before .before .before .before .before in
+    row-asks (start .pre) (loop .loop .inv) (test .loop-test .taken) (at-get32 .get32 .ensures .0)
 
 -- The turn.
 turned : (c : tie.After-cancel-row Inv-loop μ-loop) →
@@ -33,7 +40,12 @@ turned : (c : tie.After-cancel-row Inv-loop μ-loop) →
     let l = c .before .before .before .before .before .before .before .before .before .before .loop in
     Meeting (reverses (a .reverse .now)) (pool (a .parent .now) (a .rank .now) (a .slot-row .now) (a .slot-cell .now) (a .prev .now) (a .next .now) (a .row-slot .now)) (a .held) (a .rows .now) (l .i + 1)
     (l .pairs + c .cancel-row .result) (pool (c .cancel-row .last .1 .0) (c .cancel-row .last .1 .1 .0) (c .cancel-row .last .1 .1 .1 .0) (c .cancel-row .last .1 .1 .1 .1 .0) (c .cancel-row .last .1 .1 .1 .1 .1 .0) (c .cancel-row .last .1 .1 .1 .1 .1 .1 .0) (c .cancel-row .last .1 .1 .1 .1 .1 .1 .1 .0))
-turned c = meeting-turn (c .before .before .before .before .before .before .before .before .before .before .before .before .before .before .before .before .before .before .before .before .pre) (c .before .before .before .before .before .before .before .before .before .before .loop .inv) (c .before .before .before .before .before .before .before .before .before .loop-test .taken) (c .before .before .before .before .before .before .before .before .get32 .ensures .0) (c .cancel-row .ensures)
+turned c =
+    let at-get32 = c .before .before .before .before .before .before .before .before in
+    let test = at-get32 .before in
+    let loop = test .before in
+    let start = loop .before .before .before .before .before .before .before .before .before .before in
+    meeting-turn (start .pre) (loop .loop .inv) (test .loop-test .taken) (at-get32 .get32 .ensures .0) (c .cancel-row .ensures)
 
 add-pairs : tie.Need-add-pairs Inv-loop μ-loop
 add-pairs c = let f = c .before .before .before .before .before .before .before .before .before .before .before .before .before .before .before .before .before .before .before .before .before .before .before .before .before .before .before .before .before .before .before .before .before .before .good .1 .1 .1 .1 .1 .1 .1 .1 .0 .0 in let l = c .before .before .before .before .before .before .before .before .before .before .before .before .before .before .before .before .before .before .before .before .before .before .before .loop-test .taken in let t = turned (c .before .before .before .before .before .before .before .before .before .before .before .before .before .before) in omega (arith, t .few)
@@ -45,7 +57,9 @@ loop-less : tie.Need-loop-less Inv-loop μ-loop
 loop-less c = let l = c .before .before .before .before .before .before .before .before .before .before .before .before .before .before .before .before .before .before .before .before .before .before .before .loop-test .taken in omega arith
 
 loop-again : tie.Need-loop-again Inv-loop μ-loop
-loop-again c = turned (c .before .before .before .before .before .before .before .before .before .before .before .before .before .before)
+loop-again c =
+    let at-before = c .before .before .before .before .before .before .before .before .before .before .before .before .before in
+    turned (c .before .before .before .before .before .before .before .before .before .before .before .before .before .before)
 
 same-length : tie.Need-same-length Inv-loop μ-loop
 same-length c = c .before .loop .inv .going .long-parent
@@ -57,19 +71,27 @@ same-length-3 : tie.Need-same-length-3 Inv-loop μ-loop
 same-length-3 c = c .before .loop .inv .going .long-row
 
 same-length-4 : tie.Need-same-length-4 Inv-loop μ-loop
-same-length-4 c = c .before .loop .inv .going .long-cell ∙ sym (c .before .before .before .before .before .before .before .before .before .before .before .pre .even-cell)
+same-length-4 c =
+    let start = c .before .before .before .before .before .before .before .before .before .before .before in
+    c .before .loop .inv .going .long-cell ∙ sym (start .pre .even-cell)
 
 same-length-5 : tie.Need-same-length-5 Inv-loop μ-loop
-same-length-5 c = c .before .loop .inv .going .long-prev ∙ sym (c .before .before .before .before .before .before .before .before .before .before .before .pre .even-prev)
+same-length-5 c =
+    let start = c .before .before .before .before .before .before .before .before .before .before .before in
+    c .before .loop .inv .going .long-prev ∙ sym (start .pre .even-prev)
 
 same-length-6 : tie.Need-same-length-6 Inv-loop μ-loop
-same-length-6 c = c .before .loop .inv .going .long-next ∙ sym (c .before .before .before .before .before .before .before .before .before .before .before .pre .even-next)
+same-length-6 c =
+    let start = c .before .before .before .before .before .before .before .before .before .before .before in
+    c .before .loop .inv .going .long-next ∙ sym (start .pre .even-next)
 
 same-length-7 : tie.Need-same-length-7 Inv-loop μ-loop
 same-length-7 c = c .before .loop .inv .going .long-slot
 
 returns : tie.Need-returns Inv-loop μ-loop
-returns c = meeting-end (c .before .before .before .before .before .before .before .before .before .before .before .pre) (c .before .loop .inv) (c .loop-test .left)
+returns c =
+    let start = c .before .before .before .before .before .before .before .before .before .before .before in
+    meeting-end (start .pre) (c .before .loop .inv) (c .loop-test .left)
 
 pub cancel-rows-spec : {M : Type 1} → statement M
 cancel-rows-spec =

@@ -15,7 +15,10 @@ same-length : tie.Need-same-length
 same-length c = search needs
 
 returns : tie.Need-returns
-returns c = let a = c .before .before .before .before .before .before .before .before .before .args in clear-stored (a .s .now) (a .x) (a .y) (c .before .before .before .before .before .before .put32 .ensures) (c .before .before .put322 .ensures)
+returns c =
+    let at-put32 = c .before .before .before .before .before .before in
+    let start = at-put32 .before .before .before in
+    let a = start .args in clear-stored (a .s .now) (a .x) (a .y) (at-put32 .put32 .ensures) (c .before .before .put322 .ensures)
 
 pub clear-two-spec : {M : Type 1} → statement M
 clear-two-spec = tie.close (tie.spec put32-requires put32-requires-2 same-length returns)

@@ -31,7 +31,14 @@ same-length-2 : tie.Need-same-length-2
 same-length-2 c = search needs
 
 returns : tie.Need-returns
-returns c = let a = c .before .before .before .before .before .before .before .before .before .before .before .before .before .before .before .before .before .before .before .before .before .before .args in swap-stored (a .next .now) (a .prev .now) (a .x) (a .y) (c .before .before .before .before .before .before .before .before .before .before .before .before .before .before .before .before .before .before .get32 .ensures .0) (c .before .before .before .before .before .before .before .before .before .before .before .before .before .before .before .before .get322 .ensures .0) (c .before .before .before .before .before .before .before .before .before .before .before .before .before .before .put32 .ensures) (c .before .before .before .before .before .before .before .before .before .before .put322 .ensures) (c .before .before .before .before .before .before .put323 .ensures) (c .before .before .put324 .ensures)
+returns c =
+    let at-put323 = c .before .before .before .before .before .before in
+    let at-put322 = at-put323 .before .before .before .before in
+    let at-put32 = at-put322 .before .before .before .before in
+    let at-get322 = at-put32 .before .before in
+    let at-get32 = at-get322 .before .before in
+    let start = at-get32 .before .before .before .before in
+    let a = start .args in swap-stored (a .next .now) (a .prev .now) (a .x) (a .y) (at-get32 .get32 .ensures .0) (at-get322 .get322 .ensures .0) (at-put32 .put32 .ensures) (at-put322 .put322 .ensures) (at-put323 .put323 .ensures) (c .before .before .put324 .ensures)
 
 pub swap-next-spec : {M : Type 1} → statement M
 swap-next-spec =

@@ -25,7 +25,12 @@ same-length-2 : tie.Need-same-length-2
 same-length-2 c = search needs
 
 returns : tie.Need-returns
-returns c = let a = c .before .before .before .before .before .before .before .before .before .before .before .before .before .before .args in drop-stored (a .next .now) (a .prev .now) (a .x) (c .before .before .before .before .before .before .before .before .before .before .get32 .ensures .0) (c .before .before .before .before .before .before .before .before .get322 .ensures .0) (c .before .before .before .before .before .before .put32 .ensures) (c .before .before .put322 .ensures)
+returns c =
+    let at-put32 = c .before .before .before .before .before .before in
+    let at-get322 = at-put32 .before .before in
+    let at-get32 = at-get322 .before .before in
+    let start = at-get32 .before .before .before .before in
+    let a = start .args in drop-stored (a .next .now) (a .prev .now) (a .x) (at-get32 .get32 .ensures .0) (at-get322 .get322 .ensures .0) (at-put32 .put32 .ensures) (c .before .before .put322 .ensures)
 
 pub unlink-spec : {M : Type 1} → statement M
 unlink-spec =

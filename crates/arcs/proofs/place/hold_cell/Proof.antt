@@ -22,7 +22,10 @@ slice-write-cells : tie.Need-slice-write-cells
 slice-write-cells c = search needs
 
 add-requires : tie.Need-add-requires
-add-requires c κs = add-asks (c .before .before .before .before .before .before .before .before .before .before .before .before .pre) (c .before .before .before .before .before .before .get32 .ensures .0)
+add-requires c κs =
+    let at-get32 = c .before .before .before .before .before .before in
+    let start = at-get32 .before .before .before .before .before .before in
+    add-asks (start .pre) (at-get32 .get32 .ensures .0)
 
 same-length : tie.Need-same-length
 same-length c = search needs
@@ -37,7 +40,12 @@ same-length-4 : tie.Need-same-length-4
 same-length-4 c = search needs
 
 returns : tie.Need-returns
-returns c = cell-held (c .before .before .before .before .before .before .before .before .before .before .before .before .before .before .before .before .before .pre) (c .before .before .before .before .before .before .before .before .before .before .before .get32 .ensures .0) (c .before .before .before .before .before .before .before .before .before .before .before .before .before .before .before .before .before .args .cell) (c .before .before .before .before .before .before .before .before .before .put32 .ensures) refl (c .before .before .before .before .add .ensures)
+returns c =
+    let at-add = c .before .before .before .before in
+    let at-put32 = at-add .before .before .before .before .before in
+    let at-get32 = at-put32 .before .before in
+    let start = at-get32 .before .before .before .before .before .before in
+    cell-held (start .pre) (at-get32 .get32 .ensures .0) (start .args .cell) (at-put32 .put32 .ensures) refl (at-add .add .ensures)
 
 pub hold-cell-spec : {M : Type 1} → statement M
 hold-cell-spec =

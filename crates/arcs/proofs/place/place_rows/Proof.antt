@@ -26,10 +26,16 @@ next-free-requires c κs = let l = c .before .before .before .loop .inv in omega
 
 -- The slot that the search answers, and the row to be put there.
 slot : (c : tie.After-next-free Inv-loop μ-loop) → Slot (c .before .before .before .before .before .before .before .before .before .pre) (c .before .before .before .before .loop .inv) (c .next-free .result)
-slot c = placing-slot (c .before .before .before .before .before .before .before .before .before .pre) (c .before .before .before .before .loop .inv) (c .before .before .before .loop-test .taken) (c .next-free .ensures)
+slot c =
+    let loop = c .before .before .before .before in
+    let start = loop .before .before .before .before .before in
+    placing-slot (start .pre) (loop .loop .inv) (c .before .before .before .loop-test .taken) (c .next-free .ensures)
 
 row-in : (c : tie.After-next-free Inv-loop μ-loop) → c .before .before .get32 .result < length (c .before .before .before .before .before .before .before .before .before .args .row-slot .now)
-row-in c = rw (c .before .before .get32 .ensures .0) (c .before .before .before .before .before .before .before .before .before .pre .in-table (c .before .before .before .before .loop .i) (c .before .before .before .loop-test .taken))
+row-in c =
+    let loop = c .before .before .before .before in
+    let start = loop .before .before .before .before .before in
+    rw (c .before .before .get32 .ensures .0) (start .pre .in-table (loop .loop .i) (c .before .before .before .loop-test .taken))
 
 add-put32 : tie.Need-add-put32 Inv-loop μ-loop
 add-put32 c = let p = c .before .before .before .before .before .before .before .before .before .before .pre in let s = slot (c .before) in let r = row-in (c .before) in let l = c .before .before .before .before .before .loop .inv in omega (arith, s .low, p .even, p .slots-fit, p .rows-fit, p .cells-fit, l .long-rows, l .long-cells, l .long-slots)
@@ -56,7 +62,15 @@ loop-less : tie.Need-loop-less Inv-loop μ-loop
 loop-less c = search needs
 
 loop-again : tie.Need-loop-again Inv-loop μ-loop
-loop-again c = placing-turn (c .before .before .before .before .before .before .before .before .before .before .before .before .before .before .before .before .before .before .before .before .before .pre) (c .before .before .before .before .before .before .before .before .before .before .before .before .before .before .before .before .loop .inv) (c .before .before .before .before .before .before .before .before .before .before .before .before .before .before .before .loop-test .taken) (slot (c .before .before .before .before .before .before .before .before .before .before .before .before)) (c .before .before .before .before .before .before .before .before .before .before .before .before .before .before .get32 .ensures .0) (c .before .before .before .before .before .before .before .before .before .before .put32 .ensures) (c .before .before .before .before .before .before .put322 .ensures) (c .before .before .put323 .ensures)
+loop-again c =
+    let at-put322 = c .before .before .before .before .before .before in
+    let at-put32 = at-put322 .before .before .before .before in
+    let at-before = at-put32 .before in
+    let at-get32 = at-before .before .before .before in
+    let test = at-get32 .before in
+    let loop = test .before in
+    let start = loop .before .before .before .before .before in
+    placing-turn (start .pre) (loop .loop .inv) (test .loop-test .taken) (slot (c .before .before .before .before .before .before .before .before .before .before .before .before)) (at-get32 .get32 .ensures .0) (at-put32 .put32 .ensures) (at-put322 .put322 .ensures) (c .before .before .put323 .ensures)
 
 same-length : tie.Need-same-length Inv-loop μ-loop
 same-length c = c .before .loop .inv .long-rows
@@ -68,7 +82,9 @@ same-length-3 : tie.Need-same-length-3 Inv-loop μ-loop
 same-length-3 c = c .before .loop .inv .long-slots
 
 returns : tie.Need-returns Inv-loop μ-loop
-returns c = placing-end (c .before .before .before .before .before .before .pre) (c .before .loop .inv) (c .loop-test .left)
+returns c =
+    let start = c .before .before .before .before .before .before in
+    placing-end (start .pre) (c .before .loop .inv) (c .loop-test .left)
 
 pub place-rows-spec : {M : Type 1} → statement M
 place-rows-spec =

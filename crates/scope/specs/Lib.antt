@@ -16,3 +16,4 @@ pub mod Area
 pub mod Order
 pub mod Calls
 pub mod Demands
+pub mod Bytes

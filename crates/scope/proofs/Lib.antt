@@ -25,6 +25,8 @@ pub mod Agree
 pub mod Rings
 pub mod WalkOwners
 pub mod OwnOutline
+pub mod LevelRuns
+pub mod Sixths
 pub mod Labels
 pub mod Forest
 pub mod LabelsAfresh

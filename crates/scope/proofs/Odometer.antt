@@ -75,24 +75,24 @@ move-after c (suc r) ps j h =
 -- ---- the digits of the step's number
 
 -- how far the level r has come since it last moved its parent level: 2 where it moves it next
-abbrev phase : ℕ → ℕ → ℕ
+abbrev pub phase : ℕ → ℕ → ℕ
 phase r p = (p + 2 - r % 2) % 3
 
-phase-last : (r p : ℕ) → p % 3 ≡ r % 2 → phase r p ≡ 2
+pub phase-last : (r p : ℕ) → p % 3 ≡ r % 2 → phase r p ≡ 2
 phase-last r p e = omega arith
 
 phase-more : (r p : ℕ) → (p % 3 ≡ r % 2 → ⊥) → phase r p < 2
 phase-more r p e = omega arith
 
-phase-turn : (r p : ℕ) (b : Bool) → phase r p ≡ 2 → phase r (nextPosition p b) ≡ 0
+pub phase-turn : (r p : ℕ) (b : Bool) → phase r p ≡ 2 → phase r (nextPosition p b) ≡ 0
 phase-turn r p true e = omega arith
 phase-turn r p false e = omega arith
 
-phase-next : (r p : ℕ) (b : Bool) → phase r p < 2 → phase r (nextPosition p b) ≡ phase r p + 1
+pub phase-next : (r p : ℕ) (b : Bool) → phase r p < 2 → phase r (nextPosition p b) ≡ phase r p + 1
 phase-next r p true e = omega arith
 phase-next r p false e = omega arith
 
-phase-first : (c r : ℕ) → c + 1 < r → phase r (firstPosition c r) ≡ 0
+pub phase-first : (c r : ℕ) → c + 1 < r → phase r (firstPosition c r) ≡ 0
 phase-first c r h = rw (lt-ltb (c + 1) r h) (go (eqb (r % 2) 1) refl)
   where
     go : (b : Bool) → eqb (r % 2) 1 ≡ b → phase r (cond b 14 16) ≡ 0

@@ -62,7 +62,7 @@ module _ (x c k t : ℕ) (at-level : t ≡ level c k) (deep : t ≤ 15) where
       let p : passedOver true c t w ≡ true = passed-is c k t w at-level f ∙ lt-ltb _ _ b in
       rw (z, p) (all-passed m n (v + 1) (step c t w) (step-fine c t w f) (step-value w v f e (omega arith)) (omega arith) (omega arith))
 
-third : (c t : ℕ) → c < t → 3 ^ (t - c) ≡ 3 * 3 ^ (t - c - 1)
+pub third : (c t : ℕ) → c < t → 3 ^ (t - c) ≡ 3 * 3 ^ (t - c - 1)
 third c t h = ap (λ (n : ℕ). 3 ^ n) (let e : t - c ≡ suc (t - c - 1) = omega arith in e) ∙ omega (arith, pow-suc 3 (t - c - 1))
 
 pub outline-finer : (x t : ℕ) → isPentagon x ≡ true → resolutionOf x < t → t ≤ 15

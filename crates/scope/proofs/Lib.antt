@@ -23,6 +23,7 @@ pub mod Chains
 pub mod OrderFree
 pub mod Agree
 pub mod Rings
+pub mod EdgeDigits
 pub mod WalkOwners
 pub mod OwnOutline
 pub mod LevelRuns

@@ -1,11 +1,12 @@
 -- The edge at a walk read again: its head and digits, and that it can stand for the cell that it was made from.
 --     edge-head, edge-digit     what stands above the digits, and each digit
+--     edge-faced                the edge at another edge position
 --     edge-again, edges-again   an edge has the cell's base cell and digits, so that it gives the same edges
 -- Assumes nothing.
 use mathlib.Core.Path.{_≡_, refl, _∙_}
 use mathlib.Core.Bool.{Bool}
 use mathlib.Core.Logic.{⊎-elim}
-use Prim.Native.Nat.{ℕ, zero, suc, _+_, _*_, _/_, _^_, _<_, _≤_}
+use Prim.Native.Nat.{ℕ, zero, suc, _+_, _*_, _/_, _%_, _^_, _<_, _≤_}
 use native.Mathlib.Omega.{arith}
 use borrow.Author.Tests.{le-leb, lt-leb}
 use Rattle.scope.specs.Cells.{baseCell, digit}
@@ -40,3 +41,12 @@ module _ (x c t : ℕ) (w : Walk) where
   unfolding edges
   edges-again deep p zero v = refl
   edges-again deep p (suc n) v = rw (edge-again deep v, edges-again deep p n (step c t v))
+
+  -- with the top byte's mode and edge number replaced
+  pub edge-faced : t ≤ 15 → (e : ℕ)
+      → edgeAt x c t w % 2 ^ 56 + (16 + edgeDirection e) * 2 ^ 56 ≡ edgeAt x c t (record { positions = w .positions; edgePosition = e })
+  edge-faced deep e =
+      let v : Walk = record { positions = w .positions; edgePosition = e } in
+      let l = digits-lt x c t w in
+      let h : edgeAt x c t w % 2 ^ 56 ≡ (t * 128 + baseCell x) * 2 ^ 45 + digitsAt x c t w = rw (edge-is x c t w) (omega arith) in
+      rw (h, edge-is x c t v) (omega arith)

@@ -1,9 +1,10 @@
 -- A rule of a table of numbers, proved at all of its entries by one test that antt computes.
 --     entry          the test passes of a place and the entry there
 --     entry-below    every entry is below m, and so is 0 past the end
+--     beq-eq         two tests agree where the test `Bool·beq` says so
 -- Assumes nothing.
-use mathlib.Core.Path.{_≡_, _∙_, ap}
-use mathlib.Core.Bool.{Bool, true, _&&_}
+use mathlib.Core.Path.{_≡_, refl, _∙_, ap, sym}
+use mathlib.Core.Bool.{Bool, true, false, _&&_, Bool·beq}
 use mathlib.Core.List.{List, [], _∷_}
 use Prim.Native.Nat.{ℕ, zero, suc, _+_, _<_}
 use native.Mathlib.Omega.{arith}
@@ -36,3 +37,10 @@ unfolding allBelow
 entry-below m h [] e p = h
 entry-below m h (y ∷ ys) e zero = ltb-true _ _ (and-left _ _ e)
 entry-below m h (y ∷ ys) e (suc p) = entry-below m h ys (and-right (ltb y m) _ e) p
+
+-- two tests that agree, as a test
+pub beq-eq : (a b : Bool) → Bool·beq a b ≡ true → a ≡ b
+beq-eq true true e = refl
+beq-eq true false e = sym e
+beq-eq false true e = e
+beq-eq false false e = refl

@@ -20,7 +20,7 @@ use borrow.Author.Tests.{eqb-true, eqb-false, lt-ltb, le-ltb}
 use Rattle.scope.specs.Lists.{at}
 use Rattle.scope.specs.Walk.{Walk, Moved, still, levelStep, asksParent, nextPosition, move, step, passedOver, firstPosition, firstWalk, walkDigits, walkDigit}
 use Rattle.scope.proofs.Tests.{le-or-lt}
-use Rattle.scope.proofs.Entries.{every, entry}
+use Rattle.scope.proofs.Entries.{every, entry, beq-eq}
 use Rattle.scope.proofs.Walks.{settled, settled-yes, settled-no, move-is, asks-first}
 use Rattle.scope.proofs.WalkStarts.{first-at, first-lt, first-long}
 
@@ -193,12 +193,6 @@ value-high c zero ps = omega arith
 value-high c (suc k) ps =
     let a : value c k ps < (at ps (c + 1) + 1) * 3 ^ k = value-high c k ps in
     rw (pow-suc 3 k, ← mul-assoc (at ps (c + 1) + 1) (3 ^ k) 3) (omega arith)
-
-beq-eq : (a b : Bool) → Bool·beq a b ≡ true → a ≡ b
-beq-eq true true e = refl
-beq-eq true false e = sym e
-beq-eq false true e = e
-beq-eq false false e = refl
 
 one-first : (p : ℕ) → p < 18 → eqb (walkDigit p) 1 ≡ ltb p 3
 unfolding every

@@ -26,7 +26,7 @@ use Rattle.scope.proofs.Walks.{digitsAt, digits-lt, walkDigit-lt, walke
 use Rattle.scope.proofs.WalkStarts.{own-digit}
 use Rattle.scope.proofs.Odometer.{Fine, first-fine, step-fine}
 
-step-turns : (c t : ℕ) (w : Walk) → step c t w .edgePosition < 6
+pub step-turns : (c t : ℕ) (w : Walk) → step c t w .edgePosition < 6
 unfolding step
 step-turns c t w = omega arith
 

@@ -1,0 +1,3 @@
+-- What the walk's state stands for, and what its functions promise.
+pub mod Levels
+pub mod Walking

@@ -1,0 +1,117 @@
+//! The runs: the library under test against document 01's rules (`rules`) and against the Rust (`oracle`).
+mod bench;
+mod list;
+mod oracle_answer;
+mod problem;
+mod random;
+mod report;
+mod rules;
+mod sections;
+mod shrink;
+mod subject;
+mod tables;
+
+use random::Random;
+use report::Report;
+use sections::{Context, SECTIONS};
+use std::{env, path::PathBuf, process::ExitCode};
+use tables::real::Folder;
+
+const HELP: &str = "\
+runs [--seed N] [--rounds N] [--tables FOLDER] [SECTION...]
+    Compares the library with document 01's rules and with the Rust, and ends with status 1 at the first difference, with the smallest
+    input that shows it. Without a section, all of them run:
+      walk      outlines, alone and through dissolve
+      short     every list of up to four cells on two small tables, in every mode
+      dissolve  random lists on real and hand-made tables, in every mode
+      standing  a state after every offer, with replays and refusals in between
+      order     the same cells in another order
+      boundary  capacities, slots, output lengths and byte lengths around their bounds
+      damage    damaged tables, states and lists, and states that calls alone would not make
+      odd       tables that make no surface; and what the Rust does there
+    --seed N    another start of the random numbers (1)
+    --rounds N  as many random problems in each section (a minute's worth in all)
+    --tables F  the folder of the real tables (shared/tables beside the repository, or the environment's ZONE_TABLES)
+runs list       writes the fixed list of the oracle's answers to standard output
+runs bench      times the calls beside the Rust's
+runs --help     this
+";
+
+struct Arguments {
+    seed: u64,
+    rounds: Option<usize>,
+    folder: Folder,
+    words: Vec<String>,
+}
+
+fn arguments() -> Result<Arguments, String> {
+    let default = concat!(env!("CARGO_MANIFEST_DIR"), "/../../../shared/tables");
+    let folder = env::var("ZONE_TABLES").unwrap_or_else(|_| default.into());
+    let mut found = Arguments { seed: 1, rounds: None, folder: Folder(folder.into()), words: Vec::new() };
+    let mut arguments = env::args().skip(1);
+    while let Some(argument) = arguments.next() {
+        let mut value = || arguments.next().ok_or_else(|| format!("{argument} needs a value"));
+        let number = |text: String| text.parse().map_err(|_| format!("{text} is not a number"));
+        match argument.as_str() {
+            "--seed" => found.seed = number(value()?)?,
+            "--rounds" => found.rounds = Some(number(value()?)? as usize),
+            "--tables" => found.folder = Folder(PathBuf::from(value()?)),
+            "--help" | "-h" => found.words = vec!["--help".into()],
+            _ if argument.starts_with('-') => return Err(format!("no option {argument}; see --help")),
+            _ => found.words.push(argument),
+        }
+    }
+    Ok(found)
+}
+
+fn run(arguments: &Arguments) -> Result<(), String> {
+    let words = arguments.words.iter().map(String::as_str).collect::<Vec<_>>();
+    match words.as_slice() {
+        ["--help"] => {
+            print!("{HELP}");
+            Ok(())
+        }
+        ["list"] => list::write(&arguments.folder),
+        ["bench"] => bench::run(&arguments.folder),
+        ["rust-on", name] => sections::odd::answer_of_the_rust(name),
+        names => compare(arguments, names),
+    }
+}
+
+fn compare(arguments: &Arguments, names: &[&str]) -> Result<(), String> {
+    if let Some(name) = names.iter().find(|name| SECTIONS.iter().all(|(section, _)| section != *name)) {
+        return Err(format!("no section {name}; see --help"));
+    }
+    if !subject::AVAILABLE {
+        println!(
+            "the library (target/staticlib/libhost.a) was not there when this was built: the rules are compared with the Rust alone"
+        );
+    }
+    if !oracle::AVAILABLE {
+        println!("the Rust's texts were not there when this was built: the library is compared with the rules alone");
+    }
+    if !arguments.folder.is_there() {
+        return Err(format!("no real tables in {}", arguments.folder.0.display()));
+    }
+    for (number, (name, section)) in SECTIONS.iter().enumerate() {
+        if !names.is_empty() && !names.contains(name) {
+            continue;
+        }
+        let random = Random::new(arguments.seed.wrapping_mul(1000).wrapping_add(number as u64));
+        let mut context = Context { random, rounds: arguments.rounds, folder: &arguments.folder };
+        let mut report = Report::new(name);
+        section(&mut context, &mut report)?;
+        report.close();
+    }
+    Ok(())
+}
+
+fn main() -> ExitCode {
+    match arguments().and_then(|arguments| run(&arguments)) {
+        Ok(()) => ExitCode::SUCCESS,
+        Err(message) => {
+            eprintln!("{message}");
+            ExitCode::FAILURE
+        }
+    }
+}

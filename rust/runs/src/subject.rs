@@ -1,0 +1,63 @@
+//! The library under test, behind its two byte entry points. All that is unsafe in the runs is here.
+
+/// Whether the static library was there when this was built.
+pub const AVAILABLE: bool = cfg!(subject);
+
+#[cfg(subject)]
+mod linked {
+    // A slice is two parameters, a pointer and a length in elements; neither may be null.
+    unsafe extern "C" {
+        fn zone_dissolve(
+            table: *const u8,
+            table_length: usize,
+            cells: *const u8,
+            cells_length: usize,
+            out: *mut u8,
+            out_length: usize,
+            mode: u32,
+            slots: u32,
+            places: u32,
+        ) -> u64;
+        fn zone_standing(
+            table: *const u8,
+            table_length: usize,
+            state: *mut u8,
+            state_length: usize,
+            out: *mut u8,
+            out_length: usize,
+            slots: u32,
+            places: u32,
+            call: u32,
+            value: u64,
+        ) -> u64;
+    }
+
+    pub fn dissolve(table: &[u8], cells: &[u8], out: &mut [u8], mode: u32, slots: u32, places: u32) -> u64 {
+        let (to, room) = (out.as_mut_ptr(), out.len());
+        // SAFETY: each pointer comes with the length of the slice it is taken from; only `out` is written, and is borrowed for it.
+        unsafe {
+            zone_dissolve(table.as_ptr(), table.len(), cells.as_ptr(), cells.len(), to, room, mode, slots, places)
+        }
+    }
+
+    pub fn standing(
+        table: &[u8],
+        state: &mut [u8],
+        out: &mut [u8],
+        slots: u32,
+        places: u32,
+        call: u32,
+        value: u64,
+    ) -> u64 {
+        let (held, size, to, room) = (state.as_mut_ptr(), state.len(), out.as_mut_ptr(), out.len());
+        // SAFETY: as above; `state` and `out` are written, and are borrowed for it.
+        unsafe { zone_standing(table.as_ptr(), table.len(), held, size, to, room, slots, places, call, value) }
+    }
+}
+
+#[cfg(subject)]
+pub use linked::{dissolve, standing};
+
+/// Without the library, the rules stand in for it, so that a run still compares them with the oracle.
+#[cfg(not(subject))]
+pub use crate::rules::bytes::{dissolve, standing};

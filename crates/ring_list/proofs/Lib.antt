@@ -1,0 +1,3 @@
+-- The laws of this crate's definitions, and what its walks by hand share.
+pub mod Filled
+pub mod Room

@@ -91,3 +91,4 @@ pub mod ViewsAlike
 pub mod ShownAfresh
 pub mod WhateverOrder
 pub mod Over
+pub mod ByteExamples

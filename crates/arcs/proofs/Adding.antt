@@ -3,29 +3,29 @@
 --     placed-is                                the first two leave scope's `placed`
 --     added                                    all of them leave scope's `taking`
 -- Assumes nothing.
-use mathlib.Core.Path.{_≡_, refl, sym, ap, _∙_, subst}
+use mathlib.Core.Path.{_≡_, sym, ap, _∙_}
 use mathlib.Core.Logic.{⊎-elim, _≢_}
 use mathlib.Core.List.{List, [], _∷_, map, List·Memᴰ, List·Memᴰ·not-nil, List·Memᴰ·cases-cons}
-use Prim.Native.Nat.{ℕ, suc, _+_, _*_, _≤_, _<_}
+use Prim.Native.Nat.{ℕ, suc, _+_}
 use native.Mathlib.Numerals.{add-one}
 use native.Mathlib.Omega.{arith}
-use lib.ListN.{length, set, replicate, length-map}
-use Rattle.scope.specs.Lists.{at, rotate, putAll}
-use Rattle.scope.specs.Table.{Table, rowCount, outlineRows}
-use Rattle.scope.specs.Memory.{Memory, memory, held, slots}
+use lib.ListN.{length, length-map}
+use Rattle.scope.specs.Lists.{at, putAll}
+use Rattle.scope.specs.Table.{Table, outlineRows}
+use Rattle.scope.specs.Memory.{Memory, memory, slots}
 use Rattle.scope.specs.Pool.{freeSlots, slotsFor, placed, cancelled, taking}
 use Rattle.scope.proofs.Members.{cases, mem-at}
 use Rattle.scope.proofs.Puts.{putAll-length}
 use Rattle.scope.proofs.Placed.{slots-fresh, slots-free, slots-in}
-use Rattle.scope.proofs.Sound.{Offered, sound-table, offered-outline, offered-room}
-use Rattle.scope.proofs.Taking.{placedFor, offered-many, offered-placed, sound-forest}
-use Rattle.arcs.specs.Place.{freeIn, slotsIn, slotsAt, PlaceAsks}
+use Rattle.scope.proofs.Sound.{sound-table, offered-outline, offered-room}
+use Rattle.scope.proofs.Taking.{placedFor, offered-many, sound-forest}
+use Rattle.arcs.specs.Place.{freeIn, slotsAt}
 use Rattle.arcs.specs.Cancel.{pool}
 use Rattle.arcs.specs.CancelRows.{reverses, CancelAsks, RowsCancelled}
 use Rattle.arcs.specs.Taking.{HoldAsks, CellHeld, OutlineAsks, OutlinePlaced, AddAsks, Added}
 use Rattle.arcs.proofs.Counting.{usedTotal, free-count, used-put}
 use Rattle.arcs.proofs.Offering.{slots-placed, placed-asks}
-use Rattle.arcs.proofs.PoolAlone.{poolOf, asks-same, cancelled-same}
+use Rattle.arcs.proofs.PoolAlone.{asks-same, cancelled-same}
 
 -- a number plus one is not 0
 not-none : (l : List ℕ) (v : ℕ) → List·Memᴰ v (map suc l) → v ≢ 0

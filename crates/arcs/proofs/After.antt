@@ -4,9 +4,9 @@
 --     after-pair       one more pair is: by staging
 --     after-same, round-same     the same for a set and links that agree
 -- Assumes nothing.
-use mathlib.Core.Path.{_≡_, refl, sym}
+use mathlib.Core.Path.{_≡_, sym}
 use Prim.Native.Nat.{ℕ}
-use Rattle.scope.specs.Standing.{Lands, here, on}
+use Rattle.scope.specs.Standing.{Lands, here}
 use Rattle.scope.proofs.Members.{cases}
 use Rattle.scope.proofs.Lands.{lands-same, lands-to, stage-from}
 use Rattle.arcs.proofs.Round.{Round}

@@ -2,25 +2,23 @@
 --     left-links, left-back     the links left are those of the successor rule over the links before, forward and backward
 --     cancelling-end            the state left
 -- Assumes nothing.
-use mathlib.Core.Path.{_≡_, refl, sym, _∙_, ap, subst}
-use mathlib.Core.Logic.{_⊎_, inl, inr, ⊎-elim, _≢_}
+use mathlib.Core.Path.{_≡_, refl, sym, _∙_, ap}
+use mathlib.Core.Logic.{_⊎_, ⊎-elim}
 use mathlib.Core.Bool.{Bool, true, false, _&&_, not, cond}
-use mathlib.Core.List.{List, [], _∷_}
-use Prim.Native.Nat.{ℕ, _+_, _-_, _≤_, _<_}
+use mathlib.Core.List.{List, []}
+use Prim.Native.Nat.{ℕ, _-_, _≤_, _<_}
 use native.Mathlib.Omega.{arith}
 use lib.ListN.{length, List·getD-eq-default}
 use lib.Seq.{ext-getD}
 use Rattle.scope.specs.Lists.{at}
-use Rattle.scope.specs.Table.{Table, rowCount, reverseOf}
-use Rattle.scope.specs.Standing.{Lands}
-use Rattle.scope.specs.Memory.{Memory, memory, slots, isUsed, slotOf, rowIn, hasSlot}
-use Rattle.scope.specs.UnionFind.{United}
+use Rattle.scope.specs.Table.{Table, reverseOf}
+use Rattle.scope.specs.Memory.{Memory, memory, slots, isUsed, slotOf, hasSlot}
 use Rattle.scope.specs.Pool.{cancels, stays, reverseHeld, reverseSlot, relinked, ifStays, rowIfStays, metFirst, unitePairs, cancelled}
 use Rattle.scope.proofs.Tests.{either, clash, le-or-lt}
 use Rattle.scope.proofs.Members.{cases}
 use Rattle.scope.proofs.Lands.{lands-map, lands-to, lands-unique}
 use Rattle.scope.proofs.Returns.{Over, Paired, turned, returns, over-turns}
-use Rattle.scope.proofs.Linked.{at-in, Used, Has, used-true, Linked, slot-used, row-slot, cancels-used, stays-used, stays-not, stays-rest, mate-cancels, linked-paired}
+use Rattle.scope.proofs.Linked.{Used, used-true, slot-used, row-slot, cancels-used, stays-used, stays-not, stays-rest, mate-cancels, linked-paired}
 use Rattle.scope.proofs.Cancelling.{Cancelled, cancelled-lists, tabulate-length}
 use Rattle.arcs.specs.CancelRows.{CancelAsks}
 use Rattle.arcs.proofs.Gone.{gone, Met, gone-all}

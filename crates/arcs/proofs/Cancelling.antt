@@ -3,22 +3,22 @@
 --     Cancelling           the loop's invariant: the lists hold what is not gone, linked as After says, and the unions left lead to the end
 --     cancelling-start     before the first row
 -- Assumes nothing.
-use mathlib.Core.Path.{_≡_, refl, sym, _∙_, ap, subst}
-use mathlib.Core.Logic.{_⊎_, inl, inr, ⊎-elim, _≢_}
-use mathlib.Core.Bool.{Bool, true, false, _&&_, not, cond}
-use mathlib.Core.List.{List, [], _∷_, List·Memᴰ}
-use Prim.Native.Nat.{ℕ, zero, suc, _+_, _*_, _-_, _≤_, _<_}
+use mathlib.Core.Path.{_≡_, refl, sym}
+use mathlib.Core.Logic.{_⊎_, ⊎-elim}
+use mathlib.Core.Bool.{false, cond}
+use mathlib.Core.List.{List, []}
+use Prim.Native.Nat.{ℕ, _+_, _*_, _-_, _≤_, _<_}
 use native.Mathlib.Omega.{arith}
-use lib.ListN.{length, drop, length-map, List·getD-eq-default}
+use lib.ListN.{length, List·getD-eq-default}
 use Rattle.scope.specs.Lists.{at}
-use Rattle.scope.specs.Table.{Table, rowCount, reverseOf}
+use Rattle.scope.specs.Table.{Table}
 use Rattle.scope.specs.Memory.{Memory, slots, slotOf}
 use Rattle.scope.specs.UnionFind.{United}
 use Rattle.scope.specs.Pool.{reverseSlot, metFirst, unitePairs}
 use Rattle.scope.proofs.Tests.{le-or-lt}
 use Rattle.scope.proofs.Members.{cases}
 use Rattle.scope.proofs.Halving.{Forest}
-use Rattle.scope.proofs.Linked.{Used, Has}
+use Rattle.scope.proofs.Linked.{Used}
 use Rattle.arcs.specs.Place.{slotsAt}
 use Rattle.arcs.specs.CancelRows.{CancelAsks}
 use Rattle.arcs.proofs.Round.{Round}

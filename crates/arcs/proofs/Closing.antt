@@ -3,9 +3,9 @@
 --     closed-drop, closed-swap        taking a slot out and exchanging two nexts keep that
 --     swapped-closed, dropped-closed, pair-all     the three steps of `merge_arcs`: what the next step asks, and what all of them leave
 -- Assumes nothing.
-use mathlib.Core.Path.{_≡_, refl, sym, _∙_, ap, subst}
+use mathlib.Core.Path.{_≡_, refl, sym, _∙_, subst}
 use mathlib.Core.List.{List}
-use Prim.Native.Nat.{ℕ, _<_, _≤_, _^_}
+use Prim.Native.Nat.{ℕ, _<_}
 use native.Mathlib.Omega.{arith}
 use lib.ListN.{length, set, length-set}
 use lib.Seq.{getD-set-same, getD-set-other}

@@ -5,19 +5,19 @@
 --     gone-skip, gone-pair, gone-else     one more slot met: nothing changes, or it and its mate are gone, and the others stay as they were
 --     gone-all                  all met: what is gone is what cancels
 -- Assumes nothing.
-use mathlib.Core.Path.{_≡_, refl, sym, _∙_, ap, subst}
+use mathlib.Core.Path.{_≡_, refl, sym, _∙_, ap}
 use mathlib.Core.Logic.{_⊎_, inl, inr, ⊎-elim, _≢_}
-use mathlib.Core.Bool.{Bool, true, false, _&&_, _||_, not, cond}
+use mathlib.Core.Bool.{Bool, true, false, _&&_, _||_}
 use mathlib.Core.List.{List, [], _∷_, List·Memᴰ, List·Memᴰ·head, List·Memᴰ·tail, List·Memᴰ·not-nil, List·Memᴰ·cases-cons, Memᴰ·cast}
-use Prim.Native.Nat.{ℕ, zero, suc, _+_, _≤_, _<_}
+use Prim.Native.Nat.{ℕ, zero, suc, _<_}
 use native.Mathlib.Omega.{arith}
-use lib.ListN.{length, drop}
+use lib.ListN.{length}
 use Rattle.scope.specs.Lists.{at, member}
 use Rattle.scope.specs.Table.{Table, rowCount, reverseOf}
 use Rattle.scope.specs.Memory.{Memory}
 use Rattle.scope.specs.Pool.{cancels, reverseSlot}
 use Rattle.scope.proofs.Tests.{either, clash, same, and-left, and-right, and-both}
-use Rattle.scope.proofs.Members.{cases, Fresh, mem-dec, place, fresh-at, member-true, member-mem}
+use Rattle.scope.proofs.Members.{cases, Fresh, place, fresh-at, member-true, member-mem}
 use Rattle.scope.proofs.Successor.{Reverses}
 use Rattle.scope.proofs.Linked.{Linked, mate-cancels, mate-mate}
 

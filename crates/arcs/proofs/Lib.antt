@@ -1,20 +1,27 @@
--- The laws behind the functions of this crate, over plain lists.
+-- The laws behind the functions of this crate, over plain lists, in the order of their use.
+-- Opening.
 pub mod Opening
+-- Placing an outline: the search for a slot, the rows, the links, both together.
+pub mod Searching
 pub mod Placing
 pub mod Linking
+pub mod PlacedSlots
+-- A pair leaves the links and the pool.
 pub mod Round
 pub mod Pair
 pub mod Closing
 pub mod Pairs
+-- The pairs of an outline, one after the other, against all pairs at once.
+pub mod Counting
 pub mod Gone
 pub mod After
 pub mod Cancelling
 pub mod Skipping
+pub mod Clearing
 pub mod Pairing
 pub mod Cancelled
 pub mod RowsMet
-pub mod PlacedSlots
-pub mod Counting
+-- One more cell.
 pub mod Offering
 pub mod PoolAlone
 pub mod Adding

@@ -4,13 +4,13 @@
 --     linking-start, linking-turn, linking-end
 -- Assumes nothing.
 use mathlib.Core.Path.{_≡_, refl, sym, ap, _∙_}
-use mathlib.Core.List.{List, [], _∷_, map}
+use mathlib.Core.List.{List, [], _∷_}
 use Prim.Native.Nat.{ℕ, zero, suc, _+_, _-_, _≤_, _<_}
 use native.Mathlib.Numerals.{add-one}
 use native.Mathlib.Omega.{arith}
 use lib.ListN.{length, set, drop, length-set, drop-of-length-le, length-map}
 use Rattle.scope.specs.Lists.{at, rotate, putAll}
-use Rattle.scope.proofs.Outlines.{onward, onward-lt}
+use Rattle.scope.proofs.Outlines.{onward}
 use Rattle.scope.proofs.Puts.{rotate-length, rotate-at}
 use Rattle.arcs.specs.Place.{slotsAt, SlotAsks, LinkAsks, LinkedRows}
 use Rattle.arcs.proofs.Placing.{store-next}

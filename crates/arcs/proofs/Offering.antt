@@ -4,24 +4,24 @@
 --     placed-met        of each pair that cancels one is of the outline
 --     placed-asks       all of it
 -- Assumes nothing.
-use mathlib.Core.Path.{_≡_, refl, sym, ap, _∙_, subst}
-use mathlib.Core.Logic.{_⊎_, inl, inr, ⊎-elim, _≢_}
+use mathlib.Core.Path.{_≡_, sym, ap, _∙_, subst}
+use mathlib.Core.Logic.{_⊎_, inl, inr, ⊎-elim}
 use mathlib.Core.Bool.{true}
-use mathlib.Core.List.{List, [], _∷_, List·Memᴰ, Memᴰ·cast}
-use Prim.Native.Nat.{ℕ, suc, _+_, _-_, _≤_, _<_}
+use mathlib.Core.List.{List, List·Memᴰ, Memᴰ·cast}
+use Prim.Native.Nat.{ℕ, suc, _-_, _<_}
 use native.Mathlib.Omega.{arith}
-use lib.ListN.{length, length-map, length-set}
+use lib.ListN.{length, length-map}
 use lib.Seq.{ext-getD}
 use Rattle.scope.specs.Lists.{at}
 use Rattle.scope.specs.Table.{Table, rowCount, reverseOf, outlineRows}
-use Rattle.scope.specs.Memory.{Memory, held, slots, slotOf, rowIn}
+use Rattle.scope.specs.Memory.{Memory, held, slots, rowIn}
 use Rattle.scope.specs.Pool.{slotsFor, placed, cancels, reverseSlot}
-use Rattle.scope.proofs.Members.{Fresh, mem-dec, mem-at, place}
+use Rattle.scope.proofs.Members.{mem-at, place}
 use Rattle.scope.proofs.Rules.{SlotFree}
 use Rattle.scope.proofs.Successor.{Reverses}
-use Rattle.scope.proofs.Linked.{at-in, Used, Has, Linked, row-has, cancels-used, cancels-has, mate-row, mate-cancels}
+use Rattle.scope.proofs.Linked.{Used, Has, Linked, row-has, cancels-used, mate-row, mate-cancels}
 use Rattle.scope.proofs.Puts.{putAll-length}
-use Rattle.scope.proofs.Placed.{Placed, placed-used}
+use Rattle.scope.proofs.Placed.{placed-used}
 use Rattle.scope.proofs.Sound.{Offered, sound-reverses, sound-linked, none-both, offered-outline, offered-room}
 use Rattle.scope.proofs.Taking.{placedFor, offered-placed, offered-many, offered-linked, placed-cell, placed-forest}
 use Rattle.arcs.specs.Place.{slotsAt}

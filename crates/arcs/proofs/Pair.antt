@@ -4,11 +4,11 @@
 --     Removed       what a removal has to leave
 --     pair-removed  the code's stores leave that; `pair-rest`: and all else as it was
 -- Assumes nothing.
-use mathlib.Core.Path.{_≡_, refl, sym, _∙_, ap, subst}
+use mathlib.Core.Path.{_≡_, sym, _∙_, subst}
 use mathlib.Core.Logic.{_⊎_, inl, inr, _≢_}
 use mathlib.Core.List.{List}
 use Prim.Native.Nat.{ℕ, _<_}
-use lib.ListN.{length, set, length-set}
+use lib.ListN.{length, length-set}
 use Rattle.scope.specs.Lists.{at}
 use Rattle.scope.specs.Standing.{Lands}
 use Rattle.scope.proofs.Members.{cases, Put, put-set}

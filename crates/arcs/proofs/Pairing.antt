@@ -1,55 +1,32 @@
 -- A turn of `cancel_rows` at a row whose reverse has a slot: the pair is gone, the links pass over it, its cells are united.
---     clear-put, clear-length    two places cleared
 --     pair-asks                  what `cancel_pair` asks
 --     cancelling-pair            the turn
 -- Assumes nothing.
-use mathlib.Core.Path.{_≡_, refl, sym, _∙_, ap, subst}
-use mathlib.Core.Logic.{_⊎_, inl, inr, ⊎-elim, _≢_}
-use mathlib.Core.Bool.{Bool, true, false, _&&_, not, cond}
-use mathlib.Core.List.{List, [], _∷_, List·Memᴰ}
-use Prim.Native.Nat.{ℕ, suc, _+_, _*_, _-_, _≤_, _<_}
+use mathlib.Core.Path.{_≡_, sym, _∙_, ap, subst}
+use mathlib.Core.Logic.{_⊎_, inr, ⊎-elim, _≢_}
+use mathlib.Core.Bool.{Bool, true, false, cond}
+use mathlib.Core.List.{List, _∷_}
+use Prim.Native.Nat.{ℕ, _+_, _-_, _<_}
 use native.Mathlib.Omega.{arith}
-use lib.ListN.{length, set, length-set}
+use lib.ListN.{length}
 use Rattle.scope.specs.Lists.{at}
-use Rattle.scope.specs.Table.{Table, rowCount, reverseOf}
+use Rattle.scope.specs.Table.{Table, reverseOf}
 use Rattle.scope.specs.Memory.{Memory, slots, slotOf, rowIn}
-use Rattle.scope.specs.UnionFind.{United, uniting}
+use Rattle.scope.specs.UnionFind.{uniting}
 use Rattle.scope.specs.Pool.{cancels, reverseSlot, metFirst, unitePairs}
 use Rattle.scope.proofs.Tests.{either, clash}
 use Rattle.scope.proofs.Members.{cases}
-use Rattle.scope.proofs.Linked.{at-in, Used, Has, Linked, has-in, slot-used, row-slot, cancels-from, mate-mate}
-use Rattle.arcs.specs.Cancel.{swapNext, swapPrev, dropNext, dropPrev, pairNext, pairPrev, clearTwo, Closed, PairAsks, PairCancelled}
+use Rattle.scope.proofs.Linked.{at-in, Has, has-in, slot-used, row-slot, cancels-from, mate-mate}
+use Rattle.arcs.specs.Cancel.{pairNext, pairPrev, clearTwo, Closed, PairAsks, PairCancelled}
 use Rattle.arcs.specs.CancelRows.{CancelAsks}
-use Rattle.arcs.proofs.Round.{Put₂, put-set₂}
+use Rattle.arcs.proofs.Round.{Put₂}
+use Rattle.arcs.proofs.Clearing.{clear-length, clear-put, pair-length, clear-more}
 use Rattle.arcs.proofs.Pair.{Less₂, Mates, Removed, pair-removed, pair-rest}
 use Rattle.arcs.proofs.After.{after-pair, after-same, round-same}
 use Rattle.arcs.proofs.Gone.{gone, gone-from, gone-mate, gone-else, gone-first, gone-second}
-use Rattle.arcs.proofs.Cancelling.{Left, unlessGone, unions, Cancelling}
-use Rattle.arcs.proofs.Counting.{usedTotal, used-clear}
+use Rattle.arcs.proofs.Cancelling.{Left, unlessGone, Cancelling}
+use Rattle.arcs.proofs.Counting.{used-clear}
 use Rattle.arcs.proofs.Skipping.{met-pair, kept, none, mate-is}
-
--- ---- two places cleared
-
-pub clear-length : (l : List ℕ) (x y : ℕ) → length (clearTwo l x y) ≡ length l
-unfolding clearTwo
-clear-length l x y = simp length-set
-
-pub clear-put : (l : List ℕ) (x y : ℕ) → x ≢ y → x < length l → y < length l → Put₂ (at l) (at (clearTwo l x y)) x 0 y 0
-unfolding clearTwo
-clear-put l x y d h k = put-set₂ l x 0 y 0 d h k
-
-pub pair-length : (next prev : List ℕ) (x y : ℕ) → (length (pairNext next prev x y) ≡ length next) × (length (pairPrev next prev x y) ≡ length prev)
-unfolding pairNext pairPrev swapNext swapPrev dropNext dropPrev
-pair-length next prev x y = (simp length-set, simp length-set)
-
--- numbers cleared where a test holds: at two places more
-clear-more : (l : List ℕ) (x y : ℕ) → x ≢ y → x < length l → y < length l → (f : ℕ → ℕ) (g h : ℕ → Bool) → g x ≡ true → g y ≡ true
-    → ((w : ℕ) → w ≢ x → w ≢ y → cond (h w) 0 (f w) ≡ cond (g w) 0 (f w)) → ((w : ℕ) → at l w ≡ cond (h w) 0 (f w)) → (w : ℕ) → at (clearTwo l x y) w ≡ cond (g w) 0 (f w)
-clear-more l x y d hx hy f g h gx gy e k w =
-    let P = clear-put l x y d hx hy in
-    cases w x (λ q. ap (at (clearTwo l x y)) q ∙ P .put₁ ∙ sym (rw (ap g q ∙ gx)))
-    (λ nx. cases w y (λ q. ap (at (clearTwo l x y)) q ∙ P .put₂ ∙ sym (rw (ap g q ∙ gy)))
-    (λ ny. P .rest w nx ny ∙ k w ∙ e w nx ny))
 
 -- ---- the pair
 

@@ -1,15 +1,13 @@
 -- The steps of `cancel_pair` in a row: what each asks, and what all of them leave.
 -- Assumes nothing.
-use mathlib.Core.Path.{_≡_, refl, sym, _∙_, ap}
+use mathlib.Core.Path.{_≡_, _∙_, ap}
 use mathlib.Core.List.{List, []}
 use Prim.Native.Nat.{ℕ, _-_, _<_}
-use native.Mathlib.Omega.{arith}
 use lib.ListN.{length}
 use Rattle.scope.specs.Lists.{at}
-use Rattle.scope.specs.Memory.{Memory, memory, slots, slotOf}
-use Rattle.scope.specs.UnionFind.{United, uniting}
+use Rattle.scope.specs.Memory.{Memory, slotOf}
 use Rattle.union_find.specs.Contracts.{UnionAsks, Joined}
-use Rattle.arcs.specs.Cancel.{pairNext, pairPrev, clearTwo, Closed, pool, PairAsks, FreeAsks, Freed, PairCancelled}
+use Rattle.arcs.specs.Cancel.{pairNext, pairPrev, Closed, pool, PairAsks, FreeAsks, Freed, PairCancelled}
 
 module _ {m : Memory} {n row back : ℕ} (A : PairAsks m n row back) (a b : ℕ) (ea : a ≡ at (m .rowSlot) row) (eb : b ≡ at (m .rowSlot) back) where
   x-is : a - 1 ≡ slotOf m row

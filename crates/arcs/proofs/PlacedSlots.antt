@@ -3,17 +3,17 @@
 --     link-asks, outline-done    what linking asks after placing, and what both leave
 --     add-asks, cell-held        the same for the cell and its group
 -- Assumes nothing.
-use mathlib.Core.Path.{_≡_, refl, sym, ap, _∙_}
+use mathlib.Core.Path.{_≡_, sym, ap, _∙_}
 use mathlib.Core.Bool.{not}
-use mathlib.Core.List.{List, [], _∷_, map}
-use Prim.Native.Nat.{ℕ, suc, _+_, _-_, _≤_, _<_}
+use mathlib.Core.List.{List, map}
+use Prim.Native.Nat.{ℕ, suc, _+_, _-_, _<_}
 use native.Mathlib.Omega.{arith}
-use lib.ListN.{length, set, take, length-map}
-use lib.Seq.{length-take-le, ext-getD}
-use Rattle.scope.specs.Lists.{at, below, rotate, putAll}
-use Rattle.scope.proofs.Members.{Fresh, mem-at, mem-below}
+use lib.ListN.{length, set, length-map}
+use lib.Seq.{ext-getD}
+use Rattle.scope.specs.Lists.{at, putAll}
+use Rattle.scope.proofs.Members.{mem-at, mem-below}
 use Rattle.scope.proofs.Puts.{putAll-length, putAll-at, mem-take}
-use Rattle.arcs.specs.Place.{usedIn, freeIn, slotsIn, slotsAt, PlaceAsks, PlacedRows, LinkAsks, LinkedRows}
+use Rattle.arcs.specs.Place.{usedIn, freeIn, slotsIn, slotsAt, PlacedRows, LinkAsks, LinkedRows}
 use Rattle.union_find.specs.Contracts.{AddAsks, Added}
 use Rattle.arcs.specs.Taking.{HoldAsks, CellHeld, OutlineAsks, OutlinePlaced}
 use Rattle.arcs.proofs.Placing.{map-at, slots-many}

@@ -1,48 +1,19 @@
 -- The loop of `place_rows` over plain lists: what it has done, a turn, and the end.
---     from-same              the lowest failure from i on looks at nothing below i
---     free-here, free-on     the search for a free slot as a loop
 --     Placing                the loop's invariant: what is left to store is stored by the definition's remaining stores
 --     placing-start, placing-slot, placing-turn, placing-end
 -- Assumes nothing.
-use mathlib.Core.Path.{_≡_, refl, sym, ap, _∙_, subst}
-use mathlib.Core.Logic.{⊎-elim}
-use mathlib.Core.Bool.{Bool, true, false, not, cond}
+use mathlib.Core.Path.{_≡_, refl, sym, ap, _∙_}
+use mathlib.Core.Bool.{not}
 use mathlib.Core.List.{List, [], _∷_, map}
-use Prim.Native.Nat.{ℕ, zero, suc, _+_, _-_, _≤_, _<_}
+use Prim.Native.Nat.{ℕ, zero, suc, _+_, _-_, _≤_, _<_, _^_}
 use native.Mathlib.Numerals.{add-one}
 use native.Mathlib.Omega.{arith}
-use lib.Dec.{eqb}
 use lib.ListN.{length, set, take, drop, replicate, length-set, length-take, length-drop, drop-of-length-le, length-map, length-replicate, getD-replicate}
 use lib.Seq.{length-take-le, drop-cons, getD-set-other}
-use borrow.Author.Tests.{eq-eqb, ne-eqb}
-use Rattle.scope.specs.Lists.{at, from, below, putAll}
-use Rattle.scope.proofs.Tests.{either}
+use Rattle.scope.specs.Lists.{at, putAll}
 use Rattle.scope.proofs.Stores.{putAll-step, passing, below-passing, passing-next}
+use Rattle.arcs.proofs.Searching.{from-same}
 use Rattle.arcs.specs.Place.{usedIn, freeIn, slotsIn, freeFrom, PlaceAsks, PlacedRows}
-
--- ---- the search for a free slot
-
-pub from-same : (ok ko : ℕ → Bool) (n i : ℕ) → ((k : ℕ) → i ≤ k → ok k ≡ ko k) → from ok n i ≡ from ko n i
-unfolding from
-from-same ok ko zero i e = refl
-from-same ok ko (suc n) i e = rw (e i (omega arith)) (ap (λ (r : ℕ). cond (ko i) r i) (from-same ok ko n (suc i) (λ k h. e k (omega arith))))
-
-module _ (rows : List ℕ) (i : ℕ) where
-  pub free-end : length rows ≤ i → freeFrom rows i ≡ i
-  unfolding from
-  free-end h = rw (let e : length rows - i ≡ 0 = omega arith in e)
-
-  module _ (h : i < length rows) where
-    one-more : length rows - i ≡ suc (length rows - (i + 1))
-    one-more = omega arith
-
-    pub free-here : at rows i ≡ 0 → freeFrom rows i ≡ i
-    unfolding from
-    free-here e = rw (one-more, ap not (eq-eqb (at rows i) 0 e))
-
-    pub free-on : (at rows i ≡ 0 → ⊥) → freeFrom rows (i + 1) ≡ freeFrom rows i
-    unfolding from
-    free-on e = rw (one-more, ap not (ne-eqb (at rows i) 0 e), add-one)
 
 -- ---- the loop
 
@@ -130,6 +101,27 @@ module _ {slotRow slotCell rowSlot o : List ℕ} {n : ℕ} (A : PlaceAsks slotRo
             is = cc;
             later = cc;
           }
+
+      -- the three stores are in range, and what they store fits
+      pub record Fits (s row : ℕ) : Type 0 where
+        pub in-row : s < length slotRow′
+        pub in-cell : s < length slotCell′
+        pub in-slot : row < length rowSlot′
+        pub row-fits : row + 1 < 2 ^ 32
+        pub slot-fits : s + 1 < 2 ^ 32
+        pub cell-fits : n < 2 ^ 32
+
+      pub placing-fits : {s row : ℕ} → Slot s → row ≡ at o i → Fits s row
+      placing-fits S e =
+          let low = S .low in
+          let r = A .in-table i h in
+          let a = A .slots-fit in
+          let b = A .rows-fit in
+          let c = A .even in
+          let d = P .long-rows in
+          let f = P .long-cells in
+          let g = P .long-slots in
+          record { in-row = omega arith; in-cell = omega arith; in-slot = omega arith; row-fits = omega arith; slot-fits = omega arith; cell-fits = A .cells-fit }
 
       -- A TURN: the three stores
       pub placing-turn : {s row : ℕ} → Slot s → row ≡ at o i → {slotRow″ slotCell″ rowSlot″ : List ℕ}

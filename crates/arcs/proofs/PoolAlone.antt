@@ -4,16 +4,15 @@
 --     cancelled-same             the state left
 -- Assumes nothing.
 use mathlib.Core.Path.{_≡_, refl, sym, ap, _∙_}
-use mathlib.Core.Bool.{Bool, cond, _&&_, not}
+use mathlib.Core.Bool.{cond, _&&_, not}
 use mathlib.Core.List.{List, [], _∷_}
-use Prim.Native.Nat.{ℕ, _<_}
+use Prim.Native.Nat.{ℕ}
 use lib.ListN.{length}
-use Rattle.scope.specs.Lists.{at, member, tabulate}
-use Rattle.scope.specs.Table.{Table, rowCount, reverseOf}
+use Rattle.scope.specs.Lists.{at, member}
+use Rattle.scope.specs.Table.{Table, rowCount}
 use Rattle.scope.specs.Memory.{Memory, memory}
 use Rattle.scope.specs.UnionFind.{United, uniting}
-use Rattle.scope.specs.Pool.{cancels, reverseSlot, relinked, rowIfStays, metFirst, unitePairs, cancelled}
-use Rattle.scope.proofs.Linked.{Linked}
+use Rattle.scope.specs.Pool.{cancels, reverseSlot, relinked, metFirst, unitePairs, cancelled}
 use Rattle.arcs.specs.Cancel.{pool}
 use Rattle.arcs.specs.CancelRows.{reverses, CancelAsks}
 

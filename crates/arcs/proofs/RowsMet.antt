@@ -4,23 +4,22 @@
 --     meeting-start, row-asks, meeting-turn, meeting-end
 -- Assumes nothing.
 use mathlib.Core.Path.{_≡_, refl, sym, _∙_, ap, subst}
-use mathlib.Core.Logic.{_⊎_, inl, inr, ⊎-elim, _≢_}
+use mathlib.Core.Logic.{_⊎_, inl, inr, ⊎-elim}
 use mathlib.Core.Bool.{true}
 use mathlib.Core.List.{List, [], _∷_, List·Memᴰ, List·Memᴰ·head, List·Memᴰ·tail, List·Memᴰ·not-nil, List·Memᴰ·cases-cons, Memᴰ·cast}
-use Prim.Native.Nat.{ℕ, zero, suc, _+_, _*_, _-_, _≤_, _<_}
+use Prim.Native.Nat.{ℕ, suc, _+_, _-_, _≤_, _<_}
 use native.Mathlib.Numerals.{add-one}
 use native.Mathlib.Nat.{add-zero}
 use native.Mathlib.Omega.{arith}
 use lib.ListN.{length, drop, length-map, drop-of-length-le}
 use lib.Seq.{drop-cons}
 use Rattle.scope.specs.Lists.{at}
-use Rattle.scope.specs.Table.{Table, rowCount, reverseOf}
-use Rattle.scope.specs.Memory.{Memory, memory, slots, slotOf, rowIn}
-use Rattle.scope.specs.Pool.{cancels, reverseSlot, metFirst, cancelled}
-use Rattle.scope.proofs.Members.{Fresh, mem-at, place}
+use Rattle.scope.specs.Table.{Table}
+use Rattle.scope.specs.Memory.{Memory, memory, slotOf, rowIn}
+use Rattle.scope.specs.Pool.{cancels, reverseSlot}
+use Rattle.scope.proofs.Members.{Fresh, place}
 use Rattle.scope.proofs.Linked.{Has, Linked, has-in, row-slot}
-use Rattle.arcs.specs.Place.{freeIn, slotsAt}
-use Rattle.arcs.specs.Cancel.{PairAsks, PairCancelled}
+use Rattle.arcs.specs.Place.{slotsAt}
 use Rattle.arcs.specs.CancelRows.{RowAsks, RowCancelled, CancelAsks, RowsCancelled}
 use Rattle.arcs.proofs.Linking.{slots-at}
 use Rattle.arcs.proofs.Gone.{seen, seen-none, seen-more, seen-not, seen-all, Met}

@@ -5,24 +5,22 @@
 --     cancelling-skip        the turn
 -- Assumes nothing.
 use mathlib.Core.Path.{_≡_, refl, sym, _∙_, ap, subst}
-use mathlib.Core.Logic.{_⊎_, inl, inr, ⊎-elim, _≢_}
+use mathlib.Core.Logic.{_⊎_, ⊎-elim, _≢_}
 use mathlib.Core.Bool.{Bool, true, false, _&&_, not, cond}
-use mathlib.Core.List.{List, [], _∷_, List·Memᴰ}
-use Prim.Native.Nat.{ℕ, suc, _+_, _-_, _≤_, _<_}
-use native.Mathlib.Omega.{arith}
-use lib.ListN.{length}
+use mathlib.Core.List.{List, _∷_, List·Memᴰ}
+use Prim.Native.Nat.{ℕ, _-_}
 use borrow.Author.Tests.{not-true}
 use Rattle.scope.specs.Lists.{at, member}
-use Rattle.scope.specs.Table.{Table, rowCount, reverseOf}
-use Rattle.scope.specs.Memory.{Memory, slots, slotOf, rowIn}
+use Rattle.scope.specs.Table.{Table, reverseOf}
+use Rattle.scope.specs.Memory.{Memory, slotOf}
 use Rattle.scope.specs.Pool.{cancels, reverseSlot, metFirst}
 use Rattle.scope.proofs.Tests.{either, clash, and-left, and-right, and-both}
-use Rattle.scope.proofs.Members.{cases, member-true, member-mem}
-use Rattle.scope.proofs.Linked.{Used, Has, Linked, slot-used, row-slot, cancels-has, mate-mate}
+use Rattle.scope.proofs.Members.{member-true, member-mem}
+use Rattle.scope.proofs.Linked.{Has, Linked, row-slot, cancels-has, mate-mate}
 use Rattle.arcs.specs.CancelRows.{CancelAsks}
 use Rattle.arcs.proofs.After.{after-same, round-same}
-use Rattle.arcs.proofs.Gone.{gone, gone-from, gone-met, gone-cancels, gone-mate, gone-skip}
-use Rattle.arcs.proofs.Cancelling.{Left, unlessGone, unions, Cancelling}
+use Rattle.arcs.proofs.Gone.{gone, gone-met, gone-mate, gone-skip}
+use Rattle.arcs.proofs.Cancelling.{Left, unlessGone, Cancelling}
 
 -- ---- the slots met first
 

@@ -6,7 +6,7 @@ use Prim.Native.Nat.{ℕ, _<_, _≤_, _^_}
 use lib.ListN.{length, set}
 use Rattle.scope.specs.Lists.{at}
 use Rattle.scope.specs.Memory.{Memory, memory, slots, slotOf}
-use Rattle.scope.specs.UnionFind.{United, uniting}
+use Rattle.scope.specs.UnionFind.{uniting}
 use Rattle.scope.proofs.Halving.{Forest}
 
 -- ---- the links

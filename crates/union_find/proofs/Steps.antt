@@ -4,15 +4,14 @@
 --     hang-asks             what hanging a root asks
 --     joined-..             union by its two finds and its tests
 -- Assumes nothing.
-use mathlib.Core.Path.{_≡_, refl, sym, ap, _∙_}
+use mathlib.Core.Path.{_≡_, sym, ap, _∙_}
 use mathlib.Core.List.{List}
-use Prim.Native.Nat.{ℕ, _+_, _≤_, _<_, _^_}
+use Prim.Native.Nat.{ℕ, _≤_, _<_, _^_}
 use native.Mathlib.Omega.{arith}
 use lib.ListN.{length, set, length-set}
-use lib.Dec.{eqb, ltb}
 use borrow.Author.Tests.{eq-eqb, ne-eqb, lt-ltb, le-ltb}
 use Rattle.scope.specs.Lists.{at}
-use Rattle.scope.specs.UnionFind.{Halved, halve, finding, United, uniteRoots, uniting}
+use Rattle.scope.specs.UnionFind.{halve, finding, uniteRoots, uniting}
 use Rattle.scope.proofs.Halving.{Forest, rank-low, up, rises-two, turn-here, turn-keeps, halve-turn, halve-keeps, halve-held, halve-root, halve-roots}
 use Rattle.scope.proofs.Climb.{find-same}
 use Rattle.scope.proofs.Unions.{hang-keeps, hang-low}

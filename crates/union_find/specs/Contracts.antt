@@ -6,7 +6,7 @@ use mathlib.Core.List.{List}
 use Prim.Native.Nat.{ℕ, _+_, _<_, _^_}
 use lib.ListN.{length, set}
 use Rattle.scope.specs.Lists.{at}
-use Rattle.scope.specs.UnionFind.{finding, rootOf, United, hang, uniting}
+use Rattle.scope.specs.UnionFind.{finding, rootOf, hang, uniting}
 use Rattle.scope.proofs.Halving.{Forest}
 
 pub record Found (ps rs : List ℕ) (n a r : ℕ) (ps′ : List ℕ) : Type 0 where

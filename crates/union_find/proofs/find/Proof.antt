@@ -1,12 +1,11 @@
 -- `union_find::find` meets its contract. Each turn is a turn of `halve` (Steps), which the invariant says leads to the same end from where
 -- the loop stands; the measure is how far the rank can still rise.
 -- Assumes nothing.
-use mathlib.Core.Path.{_≡_, refl, sym, ap, _∙_}
-use Prim.Native.Nat.{ℕ, _≤_, _<_, _-_}
+use mathlib.Core.Path.{_≡_, sym, _∙_}
+use Prim.Native.Nat.{_<_, _-_}
 use native.Mathlib.Omega.{arith}
 use borrow.Author.Needs.{needs}
-use mathlib.Core.List.{List}
-use lib.ListN.{length, set, length-set}
+use lib.ListN.{length}
 use Rattle.scope.specs.Lists.{at}
 use Rattle.scope.specs.UnionFind.{halve}
 use Rattle.scope.proofs.Halving.{Forest, halve-stop}

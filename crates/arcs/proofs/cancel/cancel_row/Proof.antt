@@ -3,7 +3,6 @@
 use borrow.Author.Needs.{needs}
 use mathlib.Core.Path.{_≡_, refl, sym, ap, _∙_}
 use mathlib.Core.Logic.{inl, inr}
-use lib.ListN.{length}
 use Rattle.scope.specs.Lists.{at}
 use Rattle.arcs.proofs.cancel.cancel_row.Statement.{statement}
 use Rattle.arcs.proofs.cancel.cancel_row.Tie as tie

@@ -1,12 +1,11 @@
 -- `arcs::place::next_free` meets its contract: from where the loop stands the lowest free slot is the one from its start.
 -- Assumes nothing.
-use mathlib.Core.Path.{_≡_, refl, sym, ap, _∙_}
-use Prim.Native.Nat.{ℕ, _≤_, _-_}
-use native.Mathlib.Omega.{arith}
+use mathlib.Core.Path.{_≡_, sym, _∙_}
+use Prim.Native.Nat.{_≤_, _-_}
 use borrow.Author.Needs.{needs}
 use lib.ListN.{length}
 use Rattle.arcs.specs.Place.{freeFrom}
-use Rattle.arcs.proofs.Placing.{free-here, free-on, free-end}
+use Rattle.arcs.proofs.Searching.{free-here, free-on, free-end}
 use Rattle.arcs.proofs.place.next_free.Statement.{statement}
 use Rattle.arcs.proofs.place.next_free.Tie as tie
 

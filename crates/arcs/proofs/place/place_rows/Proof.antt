@@ -2,9 +2,9 @@
 -- Assumes nothing.
 use native.Mathlib.Omega.{arith}
 use borrow.Author.Needs.{needs}
-use Prim.Native.Nat.{_<_, _-_}
+use Prim.Native.Nat.{_-_}
 use lib.ListN.{length}
-use Rattle.arcs.proofs.Placing.{Placing, Slot, placing-start, placing-slot, placing-turn, placing-end}
+use Rattle.arcs.proofs.Placing.{Placing, Slot, Fits, placing-start, placing-slot, placing-fits, placing-turn, placing-end}
 use Rattle.arcs.proofs.place.place_rows.Statement.{statement}
 use Rattle.arcs.proofs.place.place_rows.Tie as tie
 
@@ -24,36 +24,33 @@ get32-requires c κs = search needs
 next-free-requires : tie.Need-next-free-requires Inv-loop μ-loop
 next-free-requires c κs = let l = c .before .before .before .loop .inv in omega (arith, l .cursor, l .long-rows)
 
--- The slot that the search answers, and the row to be put there.
+-- The slot that the search answers, and that the stores fit.
 slot : (c : tie.After-next-free Inv-loop μ-loop) → Slot (c .before .before .before .before .before .before .before .before .before .pre) (c .before .before .before .before .loop .inv) (c .next-free .result)
 slot c =
     let loop = c .before .before .before .before in
     let start = loop .before .before .before .before .before in
     placing-slot (start .pre) (loop .loop .inv) (c .before .before .before .loop-test .taken) (c .next-free .ensures)
 
-row-in : (c : tie.After-next-free Inv-loop μ-loop) → c .before .before .get32 .result < length (c .before .before .before .before .before .before .before .before .before .args .row-slot .now)
-row-in c =
-    let loop = c .before .before .before .before in
-    let start = loop .before .before .before .before .before in
-    rw (c .before .before .get32 .ensures .0) (start .pre .in-table (loop .loop .i) (c .before .before .before .loop-test .taken))
+fits : (c : tie.After-next-free Inv-loop μ-loop) → Fits (c .before .before .before .before .before .before .before .before .before .pre) (c .before .before .before .before .loop .inv) (c .before .before .before .loop-test .taken) (c .next-free .result) (c .before .before .get32 .result)
+fits c = placing-fits _ (c .before .before .before .before .loop .inv) (c .before .before .before .loop-test .taken) (slot c) (c .before .before .get32 .ensures .0)
 
 add-put32 : tie.Need-add-put32 Inv-loop μ-loop
-add-put32 c = let p = c .before .before .before .before .before .before .before .before .before .before .pre in let s = slot (c .before) in let r = row-in (c .before) in let l = c .before .before .before .before .before .loop .inv in omega (arith, s .low, p .even, p .slots-fit, p .rows-fit, p .cells-fit, l .long-rows, l .long-cells, l .long-slots)
+add-put32 c = let f = fits (c .before) .row-fits in omega arith
 
 put32-requires : tie.Need-put32-requires Inv-loop μ-loop
-put32-requires c κs = (let p = c .before .before .before .before .before .before .before .before .before .before .pre in let s = slot (c .before) in let r = row-in (c .before) in let l = c .before .before .before .before .before .loop .inv in omega (arith, s .low, p .even, p .slots-fit, p .rows-fit, p .cells-fit, l .long-rows, l .long-cells, l .long-slots), let p = c .before .before .before .before .before .before .before .before .before .before .pre in let s = slot (c .before) in let r = row-in (c .before) in let l = c .before .before .before .before .before .loop .inv in omega (arith, s .low, p .even, p .slots-fit, p .rows-fit, p .cells-fit, l .long-rows, l .long-cells, l .long-slots))
+put32-requires c κs = let f = fits (c .before) in (f .in-row, f .row-fits)
 
 put32-requires-2 : tie.Need-put32-requires-2 Inv-loop μ-loop
-put32-requires-2 c κs = (let p = c .before .before .before .before .before .before .before .before .before .before .before .before .before .before .pre in let s = slot (c .before .before .before .before .before) in let r = row-in (c .before .before .before .before .before) in let l = c .before .before .before .before .before .before .before .before .before .loop .inv in omega (arith, s .low, p .even, p .slots-fit, p .rows-fit, p .cells-fit, l .long-rows, l .long-cells, l .long-slots), let p = c .before .before .before .before .before .before .before .before .before .before .before .before .before .before .pre in let s = slot (c .before .before .before .before .before) in let r = row-in (c .before .before .before .before .before) in let l = c .before .before .before .before .before .before .before .before .before .loop .inv in omega (arith, s .low, p .even, p .slots-fit, p .rows-fit, p .cells-fit, l .long-rows, l .long-cells, l .long-slots))
+put32-requires-2 c κs = let f = fits (c .before .before .before .before .before) in (f .in-cell, f .cell-fits)
 
 add-put32-2 : tie.Need-add-put32-2 Inv-loop μ-loop
-add-put32-2 c = let p = c .before .before .before .before .before .before .before .before .before .before .before .before .before .before .before .before .before .before .pre in let s = slot (c .before .before .before .before .before .before .before .before .before) in let r = row-in (c .before .before .before .before .before .before .before .before .before) in let l = c .before .before .before .before .before .before .before .before .before .before .before .before .before .loop .inv in omega (arith, s .low, p .even, p .slots-fit, p .rows-fit, p .cells-fit, l .long-rows, l .long-cells, l .long-slots)
+add-put32-2 c = let f = fits (c .before .before .before .before .before .before .before .before .before) .slot-fits in omega arith
 
 put32-requires-3 : tie.Need-put32-requires-3 Inv-loop μ-loop
-put32-requires-3 c κs = (let p = c .before .before .before .before .before .before .before .before .before .before .before .before .before .before .before .before .before .before .pre in let s = slot (c .before .before .before .before .before .before .before .before .before) in let r = row-in (c .before .before .before .before .before .before .before .before .before) in let l = c .before .before .before .before .before .before .before .before .before .before .before .before .before .loop .inv in omega (arith, s .low, p .even, p .slots-fit, p .rows-fit, p .cells-fit, l .long-rows, l .long-cells, l .long-slots), let p = c .before .before .before .before .before .before .before .before .before .before .before .before .before .before .before .before .before .before .pre in let s = slot (c .before .before .before .before .before .before .before .before .before) in let r = row-in (c .before .before .before .before .before .before .before .before .before) in let l = c .before .before .before .before .before .before .before .before .before .before .before .before .before .loop .inv in omega (arith, s .low, p .even, p .slots-fit, p .rows-fit, p .cells-fit, l .long-rows, l .long-cells, l .long-slots))
+put32-requires-3 c κs = let f = fits (c .before .before .before .before .before .before .before .before .before) in (f .in-slot, f .slot-fits)
 
 add-start : tie.Need-add-start Inv-loop μ-loop
-add-start c = let p = c .before .before .before .before .before .before .before .before .before .before .before .before .before .before .before .before .before .before .before .before .before .pre in let s = slot (c .before .before .before .before .before .before .before .before .before .before .before .before) in let r = row-in (c .before .before .before .before .before .before .before .before .before .before .before .before) in let l = c .before .before .before .before .before .before .before .before .before .before .before .before .before .before .before .before .loop .inv in omega (arith, s .low, p .even, p .slots-fit, p .rows-fit, p .cells-fit, l .long-rows, l .long-cells, l .long-slots)
+add-start c = let f = fits (c .before .before .before .before .before .before .before .before .before .before .before .before) .slot-fits in omega arith
 
 add-i : tie.Need-add-i Inv-loop μ-loop
 add-i c = search needs

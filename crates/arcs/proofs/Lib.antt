@@ -25,3 +25,5 @@ pub mod RowsMet
 pub mod Offering
 pub mod PoolAlone
 pub mod Adding
+-- The promises allow one outcome.
+pub mod Determined

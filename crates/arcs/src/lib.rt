@@ -1,5 +1,5 @@
 // The pool: edges of the accepted outlines in slots, linked to rings. The Rust's `ArcSolvent`.
-pub mod cancel;
+mod cancel;
 pub mod place;
 
 use cancel::cancel_rows;

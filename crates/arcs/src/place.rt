@@ -11,7 +11,7 @@ ghost use Rattle.arcs.specs.Place.{freeIn, freeFrom, PlaceAsks, PlacedRo
 ghost use Rattle.arcs.specs.Taking.{HoldAsks, CellHeld, OutlineAsks, OutlinePlaced};
 
 // The lowest free slot from `start` on, or the pool's size where there is none.
-pub fn next_free(slot_row: &[u32], start: usize) -> usize
+fn next_free(slot_row: &[u32], start: usize) -> usize
     requires { ⌜ start ≤ length (now «slot_row») ⌝ }
     ensures { λ r. ⌜ r ≡ freeFrom (now («slot_row» .entry)) start ⌝ }
 {
@@ -27,7 +27,7 @@ pub fn next_free(slot_row: &[u32], start: usize) -> usize
 
 // Puts the rows of an outline into the lowest free slots, in their order. The search for a slot goes on
 // from the last one, so that it passes over the pool once.
-pub fn place_rows(
+fn place_rows(
     slot_row: &mut [u32],
     slot_cell: &mut [u32],
     row_slot: &mut [u32],
@@ -67,7 +67,7 @@ fn slot_at(row_slot: &[u32], rows: &[u32], i: usize) -> usize
 }
 
 // Links the slots of an outline's rows in a ring, in their order.
-pub fn link_rows(prev: &mut [u32], next: &mut [u32], row_slot: &[u32], rows: &[u32])
+fn link_rows(prev: &mut [u32], next: &mut [u32], row_slot: &[u32], rows: &[u32])
     requires { ⌜ LinkAsks (now prev) (now next) (now «row_slot») (now rows) ⌝ }
     ensures { λ _. ⌜ LinkedRows (now (prev .entry)) (now (next .entry)) (now («row_slot» .entry)) (now (rows .entry)) (now (prev .exit)) (now (next .exit)) ⌝ }
 {

@@ -1,2 +1,3 @@
--- The steps of find and union as laws over plain lists; the functions' proofs put the code's facts into them.
+-- The steps of find and union as laws over plain lists, into which the functions' proofs put the code's facts; and that the promises allow one outcome.
 pub mod Steps
+pub mod Determined

@@ -1,0 +1,33 @@
+-- What the public promises of this crate allow is one outcome each.
+--     cell-one, outline-one, pairs-one, added-one
+-- Assumes nothing.
+use mathlib.Core.Path.{_≡_, sym, _∙_, ap}
+use mathlib.Core.List.{List}
+use Prim.Native.Nat.{ℕ}
+use native.Mathlib.Omega.{arith}
+use lib.ListN.{length}
+use Rattle.scope.specs.Table.{Table}
+use Rattle.scope.specs.Memory.{Memory}
+use Rattle.scope.specs.Pool.{freeSlots}
+use Rattle.arcs.specs.CancelRows.{RowsCancelled}
+use Rattle.arcs.specs.Taking.{CellHeld, OutlinePlaced, Added}
+
+pub cell-one : {head cells parent rank h c p r h′ c′ p′ r′ : List ℕ} {x k k′ : ℕ} → CellHeld head cells parent rank x k h c p r → CellHeld head cells parent rank x k′ h′ c′ p′ r′
+    → (k ≡ k′) × (h ≡ h′) × (c ≡ c′) × (p ≡ p′) × (r ≡ r′)
+cell-one C D = (C .place-is ∙ sym (D .place-is), C .head-left ∙ sym (D .head-left), C .cells-left ∙ sym (D .cells-left), C .parent-left ∙ sym (D .parent-left), C .rank-left ∙ sym (D .rank-left))
+
+pub outline-one : {slotRow slotCell prev next rowSlot o a b c d e a′ b′ c′ d′ e′ : List ℕ} {k : ℕ}
+    → OutlinePlaced slotRow slotCell prev next rowSlot o k a b c d e → OutlinePlaced slotRow slotCell prev next rowSlot o k a′ b′ c′ d′ e′
+    → (a ≡ a′) × (b ≡ b′) × (c ≡ c′) × (d ≡ d′) × (e ≡ e′)
+outline-one P Q = (P .rows ∙ sym (Q .rows), P .cells ∙ sym (Q .cells), P .prevs ∙ sym (Q .prevs), P .nexts ∙ sym (Q .nexts), P .slots ∙ sym (Q .slots))
+
+pub pairs-one : {t : Table} {m m′ m″ : Memory} {n k k′ : ℕ} {o : List ℕ} → RowsCancelled t m n o k m′ → RowsCancelled t m n o k′ m″ → (k ≡ k′) × (m′ ≡ m″)
+pairs-one C D = (C .count ∙ sym (D .count), C .left ∙ sym (D .left))
+
+pub added-one : {t : Table} {m m′ m″ : Memory} {x k k′ : ℕ} → Added t m x k m′ → Added t m x k′ m″ → (k ≡ k′) × (m′ ≡ m″)
+added-one C D =
+    let same = C .left ∙ sym (D .left) in
+    let f = C .free in
+    let g = D .free in
+    let e = ap (λ (w : Memory). length (freeSlots w)) same in
+    (omega arith, same)

@@ -3,8 +3,9 @@
 use native.Mathlib.Omega.{arith}
 use borrow.Author.Needs.{needs}
 use mathlib.Core.Path.{sym, _∙_}
-use Prim.Native.Nat.{_+_, _-_}
+use Prim.Native.Nat.{_+_, _-_, _<_, _^_}
 use lib.ListN.{length}
+use Rattle.scope.specs.Memory.{Memory}
 use Rattle.arcs.specs.Cancel.{pool}
 use Rattle.arcs.specs.CancelRows.{reverses}
 use Rattle.arcs.proofs.RowsMet.{Meeting, meeting-start, row-asks, meeting-turn, meeting-end}
@@ -34,27 +35,39 @@ cancel-row-requires c κs =
     let start = loop .before .before .before .before .before .before .before .before .before .before in
     row-asks (start .pre) (loop .loop .inv) (test .loop-test .taken) (at-get32 .get32 .ensures .0)
 
--- The turn.
+-- The lists that a turn leaves, and the turn.
+abbrev left : tie.After-cancel-row Inv-loop μ-loop → Memory
+left c = pool (c .cancel-row .last .1 .0) (c .cancel-row .last .1 .1 .0) (c .cancel-row .last .1 .1 .1 .0) (c .cancel-row .last .1 .1 .1 .1 .0) (c .cancel-row .last .1 .1 .1 .1 .1 .0) (c .cancel-row .last .1 .1 .1 .1 .1 .1 .0) (c .cancel-row .last .1 .1 .1 .1 .1 .1 .1 .0)
+
 turned : (c : tie.After-cancel-row Inv-loop μ-loop) →
-    let a = c .before .before .before .before .before .before .before .before .before .before .before .before .before .before .before .before .before .before .before .before .args in
-    let l = c .before .before .before .before .before .before .before .before .before .before .loop in
-    Meeting (reverses (a .reverse .now)) (pool (a .parent .now) (a .rank .now) (a .slot-row .now) (a .slot-cell .now) (a .prev .now) (a .next .now) (a .row-slot .now)) (a .held) (a .rows .now) (l .i + 1)
-    (l .pairs + c .cancel-row .result) (pool (c .cancel-row .last .1 .0) (c .cancel-row .last .1 .1 .0) (c .cancel-row .last .1 .1 .1 .0) (c .cancel-row .last .1 .1 .1 .1 .0) (c .cancel-row .last .1 .1 .1 .1 .1 .0) (c .cancel-row .last .1 .1 .1 .1 .1 .1 .0) (c .cancel-row .last .1 .1 .1 .1 .1 .1 .1 .0))
+    let loop = c .before .before .before .before .before .before .before .before .before .before in
+    let a = loop .before .before .before .before .before .before .before .before .before .before .args in
+    Meeting (reverses (a .reverse .now)) (pool (a .parent .now) (a .rank .now) (a .slot-row .now) (a .slot-cell .now) (a .prev .now) (a .next .now) (a .row-slot .now))
+    (a .held) (a .rows .now) (loop .loop .i + 1) (loop .loop .pairs + c .cancel-row .result) (left c)
 turned c =
     let at-get32 = c .before .before .before .before .before .before .before .before in
     let test = at-get32 .before in
     let loop = test .before in
     let start = loop .before .before .before .before .before .before .before .before .before .before in
-    meeting-turn (start .pre) (loop .loop .inv) (test .loop-test .taken) (at-get32 .get32 .ensures .0) (c .cancel-row .ensures)
+    meeting-turn (start .pre) (loop .loop .inv) (test .loop-test .taken) (at-get32 .get32 .ensures .0) {m″ = left c} (c .cancel-row .ensures)
+
+-- A turn's number is below the number of rows, which fits.
+in-rows : (c : tie.After-cancel-row Inv-loop μ-loop) → c .before .before .before .before .before .before .before .before .before .before .loop .i < 2 ^ 64 - 1
+in-rows c =
+    let test = c .before .before .before .before .before .before .before .before .before in
+    let fits = test .before .before .before .before .before .before .before .before .before .before .before .good .1 .1 .1 .1 .1 .1 .1 .1 .0 .0 in
+    omega (arith, test .loop-test .taken)
 
 add-pairs : tie.Need-add-pairs Inv-loop μ-loop
-add-pairs c = let f = c .before .before .before .before .before .before .before .before .before .before .before .before .before .before .before .before .before .before .before .before .before .before .before .before .before .before .before .before .before .before .before .before .before .before .good .1 .1 .1 .1 .1 .1 .1 .1 .0 .0 in let l = c .before .before .before .before .before .before .before .before .before .before .before .before .before .before .before .before .before .before .before .before .before .before .before .loop-test .taken in let t = turned (c .before .before .before .before .before .before .before .before .before .before .before .before .before .before) in omega (arith, t .few)
+add-pairs c =
+    let call = c .before .before .before .before .before .before .before .before .before .before .before .before .before .before in
+    omega (arith, turned call .few, in-rows call)
 
 add-i : tie.Need-add-i Inv-loop μ-loop
-add-i c = let f = c .before .before .before .before .before .before .before .before .before .before .before .before .before .before .before .before .before .before .before .before .before .before .before .before .before .before .before .before .before .before .before .before .before .before .good .1 .1 .1 .1 .1 .1 .1 .1 .0 .0 in let l = c .before .before .before .before .before .before .before .before .before .before .before .before .before .before .before .before .before .before .before .before .before .before .before .loop-test .taken in omega arith
+add-i c = omega (arith, in-rows (c .before .before .before .before .before .before .before .before .before .before .before .before .before .before))
 
 loop-less : tie.Need-loop-less Inv-loop μ-loop
-loop-less c = let l = c .before .before .before .before .before .before .before .before .before .before .before .before .before .before .before .before .before .before .before .before .before .before .before .loop-test .taken in omega arith
+loop-less c = omega (arith, c .before .before .before .before .before .before .before .before .before .before .before .before .before .before .before .before .before .before .before .before .before .before .before .loop-test .taken)
 
 loop-again : tie.Need-loop-again Inv-loop μ-loop
 loop-again c =

@@ -10,20 +10,26 @@ use Rattle.arcs.proofs.add_edges.Tie as tie
 
 hold-cell-requires : tie.Need-hold-cell-requires
 hold-cell-requires c κs =
+    let at-before = c .before .before .before .before .before .before .before .before .before .before .before .before .before .before .before .before .before .before in
     let start = c .before .before .before .before .before .before .before .before .before .before .before .before .before .before .before .before .before .before .before in
     hold-asks (start .pre)
 
 place-outline-requires : tie.Need-place-outline-requires
 place-outline-requires c κs =
+    let at-before = c .before .before .before .before .before .before .before .before .before .before .before .before in
     let at-hold-cell = c .before .before .before .before .before .before .before .before .before .before .before .before .before in
     let start = at-hold-cell .before .before .before .before .before .before .before .before .before .before .before .before .before .before .before .before .before .before .before .before in
     outline-asks (start .pre) (at-hold-cell .hold-cell .ensures .place-is)
 
 add-cancel-rows : tie.Need-add-cancel-rows
-add-cancel-rows c = let h = hold-asks (c .before .before .before .before .before .before .before .before .before .before .before .before .before .before .before .before .before .before .before .before .before .before .before .before .before .before .before .before .before .before .before .before .before .before .before .before .before .before .before .before .before .before .before .before .before .before .before .before .before .before .before .pre) in let e = c .before .before .before .before .before .before .before .before .before .before .before .before .before .before .before .before .before .before .before .before .before .before .before .before .before .before .before .before .before .before .before .hold-cell .ensures .place-is in omega (arith, h .room, h .fits)
+add-cancel-rows c =
+    let at-hold-cell = c .before .before .before .before .before .before .before .before .before .before .before .before .before .before .before .before .before .before .before .before .before .before .before .before .before .before .before .before .before .before .before in
+    let start = at-hold-cell .before .before .before .before .before .before .before .before .before .before .before .before .before .before .before .before .before .before .before .before in
+    let h = hold-asks (start .pre) in let e = at-hold-cell .hold-cell .ensures .place-is in omega (arith, h .room, h .fits)
 
 cancel-rows-requires : tie.Need-cancel-rows-requires
 cancel-rows-requires c κs =
+    let at-before = c .before .before .before .before .before .before .before .before .before .before .before .before .before .before .before .before in
     let at-place-outline = c .before .before .before .before .before .before .before .before .before .before .before .before .before .before .before .before .before in
     let at-hold-cell = at-place-outline .before .before .before .before .before .before .before .before .before .before .before .before .before .before in
     let start = at-hold-cell .before .before .before .before .before .before .before .before .before .before .before .before .before .before .before .before .before .before .before .before in
@@ -31,22 +37,26 @@ cancel-rows-requires c κs =
 
 same-length : tie.Need-same-length
 same-length c =
+    let at-before = c .before .before .before .before .before .before .before .before .before .before .before .before .before .before .before .before .before .before .before .before .before .before .before .before .before .before .before .before .before .before .before .before .before .before .before .before .before .before .before .before .before .before .before .before .before in
     let at-hold-cell = c .before .before .before .before .before .before .before .before .before .before .before .before .before .before .before .before .before .before .before .before .before .before .before .before .before .before .before .before .before .before .before .before .before .before .before .before .before .before .before .before .before .before .before .before .before .before in
     at-hold-cell .hold-cell .kept .0
 
 same-length-2 : tie.Need-same-length-2
 same-length-2 c =
+    let at-before = c .before .before .before .before .before .before .before .before .before .before .before .before .before .before .before .before .before .before .before .before .before .before .before .before .before .before .before .before .before .before .before .before .before .before .before .before .before .before .before .before .before .before .before .before .before in
     let at-hold-cell = c .before .before .before .before .before .before .before .before .before .before .before .before .before .before .before .before .before .before .before .before .before .before .before .before .before .before .before .before .before .before .before .before .before .before .before .before .before .before .before .before .before .before .before .before .before .before in
     at-hold-cell .hold-cell .kept .1 .0
 
 same-length-3 : tie.Need-same-length-3
 same-length-3 c =
+    let at-before = c .before .before .before .before .before .before .before .before .before .before .before .before .before in
     let at-cancel-rows = c .before .before .before .before .before .before .before .before .before .before .before .before .before .before in
     let at-hold-cell = at-cancel-rows .before .before .before .before .before .before .before .before .before .before .before .before .before .before .before .before .before .before .before .before .before .before .before .before .before .before .before .before .before .before .before .before in
     at-cancel-rows .cancel-rows .kept .1 .0 ∙ at-hold-cell .hold-cell .kept .1 .1 .0
 
 same-length-4 : tie.Need-same-length-4
 same-length-4 c =
+    let at-before = c .before .before .before .before .before .before .before .before .before .before .before .before .before in
     let at-cancel-rows = c .before .before .before .before .before .before .before .before .before .before .before .before .before .before in
     let at-hold-cell = at-cancel-rows .before .before .before .before .before .before .before .before .before .before .before .before .before .before .before .before .before .before .before .before .before .before .before .before .before .before .before .before .before .before .before .before in
     at-cancel-rows .cancel-rows .kept .1 .1 .0 ∙ at-hold-cell .hold-cell .kept .1 .1 .1 .0
@@ -68,6 +78,7 @@ same-length-9 c = search needs
 
 returns : tie.Need-returns
 returns c =
+    let at-before = c .before .before .before .before .before .before .before .before .before .before .before .before .before in
     let at-cancel-rows = c .before .before .before .before .before .before .before .before .before .before .before .before .before .before in
     let at-place-outline = at-cancel-rows .before .before .before .before .before .before .before .before .before .before .before .before .before .before .before .before .before .before in
     let at-hold-cell = at-place-outline .before .before .before .before .before .before .before .before .before .before .before .before .before .before in

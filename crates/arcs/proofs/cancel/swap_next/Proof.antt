@@ -19,10 +19,18 @@ put32-requires-2 : tie.Need-put32-requires-2
 put32-requires-2 c κs = search needs
 
 put32-requires-3 : tie.Need-put32-requires-3
-put32-requires-3 c κs = let p = c .before .before .before .before .before .before .before .before .before .before .before .before .before .before .before .pre in let a = c .before .before .before .before .before .before .before .before .before .before .before .before .before .before .before .args in let lx = links-in (p .0) (a .x) (p .1) in let ly = links-in (p .0) (a .y) (p .2) in let ex = c .before .before .before .before .before .before .before .before .before .before .before .get32 .ensures .0 in let ey = c .before .before .before .before .before .before .before .before .before .get322 .ensures .0 in let f = p .0 .fits in let e = p .0 .even in (omega arith, omega arith)
+put32-requires-3 c κs =
+    let at-get322 = c .before .before .before .before .before .before .before .before .before in
+    let at-get32 = at-get322 .before .before in
+    let start = at-get32 .before .before .before .before in
+    let p = start .pre in let a = start .args in let lx = links-in (p .0) (a .x) (p .1) in let ly = links-in (p .0) (a .y) (p .2) in let ex = at-get32 .get32 .ensures .0 in let ey = at-get322 .get322 .ensures .0 in let f = p .0 .fits in let e = p .0 .even in (omega arith, omega arith)
 
 put32-requires-4 : tie.Need-put32-requires-4
-put32-requires-4 c κs = let p = c .before .before .before .before .before .before .before .before .before .before .before .before .before .before .before .before .before .before .before .pre in let a = c .before .before .before .before .before .before .before .before .before .before .before .before .before .before .before .before .before .before .before .args in let lx = links-in (p .0) (a .x) (p .1) in let ly = links-in (p .0) (a .y) (p .2) in let ex = c .before .before .before .before .before .before .before .before .before .before .before .before .before .before .before .get32 .ensures .0 in let ey = c .before .before .before .before .before .before .before .before .before .before .before .before .before .get322 .ensures .0 in let f = p .0 .fits in let e = p .0 .even in let k = c .before .before .before .put323 .kept .0 in (omega arith, omega arith)
+put32-requires-4 c κs =
+    let at-get322 = c .before .before .before .before .before .before .before .before .before .before .before .before .before in
+    let at-get32 = at-get322 .before .before in
+    let start = at-get32 .before .before .before .before in
+    let p = start .pre in let a = start .args in let lx = links-in (p .0) (a .x) (p .1) in let ly = links-in (p .0) (a .y) (p .2) in let ex = at-get32 .get32 .ensures .0 in let ey = at-get322 .get322 .ensures .0 in let f = p .0 .fits in let e = p .0 .even in let k = c .before .before .before .put323 .kept .0 in (omega arith, omega arith)
 
 same-length : tie.Need-same-length
 same-length c = search needs
@@ -32,6 +40,7 @@ same-length-2 c = search needs
 
 returns : tie.Need-returns
 returns c =
+    let at-before = c .before .before .before .before .before in
     let at-put323 = c .before .before .before .before .before .before in
     let at-put322 = at-put323 .before .before .before .before in
     let at-put32 = at-put322 .before .before .before .before in

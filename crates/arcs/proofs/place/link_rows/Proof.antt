@@ -21,6 +21,7 @@ loop-holds c = linking-start _ _ _ _
 
 slot-at-requires : tie.Need-slot-at-requires Inv-loop μ-loop
 slot-at-requires c κs =
+    let at-before = c .before .before .before .before .before in
     let start = c .before .before .before .before .before .before in
     slot-asks (start .pre) (c .before .loop .i) (c .loop-test .taken)
 
@@ -29,6 +30,7 @@ place-after-requires c κs = search needs
 
 slot-at-requires-2 : tie.Need-slot-at-requires-2 Inv-loop μ-loop
 slot-at-requires-2 c κs =
+    let at-before = c .before .before .before .before .before .before .before in
     let start = c .before .before .before .before .before .before .before .before in
     rw (c .place-after .ensures) (slot-asks (start .pre) (onward _ (c .before .before .before .loop .i)) (onward-lt _ (c .before .before .before .loop .i) (c .before .before .loop-test .taken)))
 
@@ -46,10 +48,17 @@ after-in c =
     rw (c .slot-at2 .ensures, c .before .place-after .ensures) (slot-low (start .pre) (onward _ (loop .loop .i)) (onward-lt _ (loop .loop .i) (c .before .before .before .loop-test .taken)))
 
 put32-requires : tie.Need-put32-requires Inv-loop μ-loop
-put32-requires c κs = (let p = c .before .before .before .before .before .before .before .before .before .before .pre in let s = slot-in (c .before) in let t = after-in (c .before) in let l = c .before .before .before .before .before .loop .inv in omega (arith, p .even, p .fits, l .long-next, l .long-prev), let p = c .before .before .before .before .before .before .before .before .before .before .pre in let s = slot-in (c .before) in let t = after-in (c .before) in let l = c .before .before .before .before .before .loop .inv in omega (arith, p .even, p .fits, l .long-next, l .long-prev))
+put32-requires c κs =
+    let loop = c .before .before .before .before .before in
+    let start = loop .before .before .before .before .before in
+    (let p = start .pre in let s = slot-in (c .before) in let t = after-in (c .before) in let l = loop .loop .inv in omega (arith, p .even, p .fits, l .long-next, l .long-prev), let p = start .pre in let s = slot-in (c .before) in let t = after-in (c .before) in let l = loop .loop .inv in omega (arith, p .even, p .fits, l .long-next, l .long-prev))
 
 put32-requires-2 : tie.Need-put32-requires-2 Inv-loop μ-loop
-put32-requires-2 c κs = (let p = c .before .before .before .before .before .before .before .before .before .before .before .before .before .before .pre in let s = slot-in (c .before .before .before .before .before) in let t = after-in (c .before .before .before .before .before) in let l = c .before .before .before .before .before .before .before .before .before .loop .inv in omega (arith, p .even, p .fits, l .long-next, l .long-prev), let p = c .before .before .before .before .before .before .before .before .before .before .before .before .before .before .pre in let s = slot-in (c .before .before .before .before .before) in let t = after-in (c .before .before .before .before .before) in let l = c .before .before .before .before .before .before .before .before .before .loop .inv in omega (arith, p .even, p .fits, l .long-next, l .long-prev))
+put32-requires-2 c κs =
+    let at-before = c .before .before .before .before in
+    let loop = at-before .before .before .before .before .before in
+    let start = loop .before .before .before .before .before in
+    (let p = start .pre in let s = slot-in (c .before .before .before .before .before) in let t = after-in (c .before .before .before .before .before) in let l = loop .loop .inv in omega (arith, p .even, p .fits, l .long-next, l .long-prev), let p = start .pre in let s = slot-in (c .before .before .before .before .before) in let t = after-in (c .before .before .before .before .before) in let l = loop .loop .inv in omega (arith, p .even, p .fits, l .long-next, l .long-prev))
 
 add-i : tie.Need-add-i Inv-loop μ-loop
 add-i c = search needs
@@ -59,6 +68,7 @@ loop-less c = search needs
 
 loop-again : tie.Need-loop-again Inv-loop μ-loop
 loop-again c =
+    let at-before = c .before .before .before .before .before in
     let at-put32 = c .before .before .before .before .before .before in
     let at-slot-at₂ = at-put32 .before .before in
     let at-place-after = at-slot-at₂ .before in
@@ -76,6 +86,7 @@ same-length-2 c = c .before .loop .inv .long-next
 
 returns : tie.Need-returns Inv-loop μ-loop
 returns c =
+    let at-before = c .before .before .before .before .before in
     let start = c .before .before .before .before .before .before in
     linking-end (start .pre) (c .before .loop .inv) (c .loop-test .left)
 

@@ -44,13 +44,19 @@ put32-requires-2 : tie.Need-put32-requires-2 Inv-loop μ-loop
 put32-requires-2 c κs = let f = fits (c .before .before .before .before .before) in (f .in-cell, f .cell-fits)
 
 add-put32-2 : tie.Need-add-put32-2 Inv-loop μ-loop
-add-put32-2 c = let f = fits (c .before .before .before .before .before .before .before .before .before) .slot-fits in omega arith
+add-put32-2 c =
+    let at-before = c .before .before .before .before .before .before .before .before in
+    let f = fits (c .before .before .before .before .before .before .before .before .before) .slot-fits in omega arith
 
 put32-requires-3 : tie.Need-put32-requires-3 Inv-loop μ-loop
-put32-requires-3 c κs = let f = fits (c .before .before .before .before .before .before .before .before .before) in (f .in-slot, f .slot-fits)
+put32-requires-3 c κs =
+    let at-before = c .before .before .before .before .before .before .before .before in
+    let f = fits (c .before .before .before .before .before .before .before .before .before) in (f .in-slot, f .slot-fits)
 
 add-start : tie.Need-add-start Inv-loop μ-loop
-add-start c = let f = fits (c .before .before .before .before .before .before .before .before .before .before .before .before) .slot-fits in omega arith
+add-start c =
+    let at-before = c .before .before .before .before .before .before .before .before .before .before .before in
+    let f = fits (c .before .before .before .before .before .before .before .before .before .before .before .before) .slot-fits in omega arith
 
 add-i : tie.Need-add-i Inv-loop μ-loop
 add-i c = search needs
@@ -60,6 +66,8 @@ loop-less c = search needs
 
 loop-again : tie.Need-loop-again Inv-loop μ-loop
 loop-again c =
+    let at-before = c .before .before .before .before .before in
+    let at-before′ = at-before .before .before .before .before .before .before in
     let at-put322 = c .before .before .before .before .before .before in
     let at-put32 = at-put322 .before .before .before .before in
     let at-before = at-put32 .before in
@@ -80,6 +88,7 @@ same-length-3 c = c .before .loop .inv .long-slots
 
 returns : tie.Need-returns Inv-loop μ-loop
 returns c =
+    let at-before = c .before .before .before .before .before in
     let start = c .before .before .before .before .before .before in
     placing-end (start .pre) (c .before .loop .inv) (c .loop-test .left)
 

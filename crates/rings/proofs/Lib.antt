@@ -13,3 +13,4 @@ pub mod Surveys
 pub mod Writing
 pub mod Outputs
 pub mod Building
+pub mod FromRules

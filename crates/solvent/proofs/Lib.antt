@@ -2,3 +2,4 @@
 pub mod Opening
 pub mod Walked
 pub mod Marking
+pub mod Refusals

@@ -1,3 +1,4 @@
 -- What the contracts of this crate cite beside `scope`.
 pub mod Lengths
 pub mod Outlines
+pub mod Admits

@@ -29,6 +29,7 @@ runs [--seed N] [--rounds N] [--tables FOLDER] [SECTION...]
       boundary  capacities, slots, output lengths and byte lengths around their bounds
       damage    damaged tables, states and lists, and states that calls alone would not make
       odd       tables that make no surface; and what the Rust does there
+      pool      the Rust's private slots and parents beside the rules'
     --seed N    another start of the random numbers (1)
     --rounds N  as many random problems in each section (a minute's worth in all)
     --tables F  the folder of the real tables (shared/tables beside the repository, or the environment's ZONE_TABLES)

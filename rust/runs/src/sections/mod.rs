@@ -4,6 +4,7 @@ mod damage;
 mod dissolve;
 pub mod odd;
 mod order;
+mod pool;
 mod short;
 mod standing;
 mod walk;
@@ -31,7 +32,7 @@ pub struct Context<'a> {
 
 type Section = fn(&mut Context, &mut Report) -> Result<(), String>;
 
-pub const SECTIONS: [(&str, Section); 8] = [
+pub const SECTIONS: [(&str, Section); 9] = [
     ("walk", walk::run),
     ("short", short::run),
     ("dissolve", dissolve::run),
@@ -40,6 +41,7 @@ pub const SECTIONS: [(&str, Section); 8] = [
     ("boundary", boundary::run),
     ("damage", damage::run),
     ("odd", odd::run),
+    ("pool", pool::run),
 ];
 
 /// As many slots and places as the byte entry points take.

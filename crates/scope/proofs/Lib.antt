@@ -92,3 +92,4 @@ pub mod ShownAfresh
 pub mod WhateverOrder
 pub mod Over
 pub mod ByteExamples
+pub mod Numbered

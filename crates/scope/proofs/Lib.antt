@@ -93,3 +93,4 @@ pub mod WhateverOrder
 pub mod Over
 pub mod ByteExamples
 pub mod Numbered
+pub mod ReadRoom

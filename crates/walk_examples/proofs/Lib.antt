@@ -1,0 +1,2 @@
+-- What the loops over a walk keep.
+pub mod Walked

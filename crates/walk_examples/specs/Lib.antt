@@ -1,0 +1,2 @@
+-- A digest to compare outlines by.
+pub mod Digest

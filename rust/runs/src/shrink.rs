@@ -1,11 +1,11 @@
-//! The smallest problem that still shows a difference: calls, cells and pairs of rows are left out as long as it does.
+//! The smallest problem that still shows a difference: calls, cells, memory and rows are left out as long as it does.
 use crate::{
     problem::{Call, Counts, Difference, Problem, run},
     rules::{
         bytes::{self, table_of},
         memory::Memory,
+        table::Table,
     },
-    tables::part,
 };
 use std::fmt;
 
@@ -27,7 +27,7 @@ fn differs(problem: &Problem) -> Option<Difference> {
 fn simpler(problem: &Problem) -> impl Iterator<Item = Problem> {
     let calls = (0..problem.calls.len()).rev().map(|call| without_call(problem, call));
     let cells = (0..problem.calls.len()).flat_map(|call| without_a_cell(problem, call));
-    calls.chain(cells).chain(without_a_pair(problem))
+    calls.chain(cells).chain(with_less_memory(problem)).chain(without_rows(problem))
 }
 
 fn without_call(problem: &Problem, call: usize) -> Problem {
@@ -50,23 +50,63 @@ fn without_a_cell(problem: &Problem, call: usize) -> Vec<Problem> {
     (0..cells.len() / 8).map(without).collect()
 }
 
-/// A row and its reverse, in a table that passes the check; the state goes along where its length fits.
-fn without_a_pair(problem: &Problem) -> Vec<Problem> {
+/// A pair of rows, or one row of a table that does not pass the check.
+fn without_rows(problem: &Problem) -> Vec<Problem> {
     let table = table_of(&problem.table);
-    let (slots, places) = (problem.slots as usize, problem.places as usize);
-    let fits = problem.state.len() == Memory::bytes(table.rows(), slots, places);
-    if table.check().is_err() || !fits || table.rows() <= 2 {
-        return Vec::new();
+    let good = table.check().is_ok();
+    let gone = |row: usize| if good { vec![row, table.reverse_of(row)] } else { vec![row] };
+    let rows = (0..table.rows()).filter(|row| !good || *row < table.reverse_of(*row));
+    rows.filter_map(|row| without(problem, &table, &gone(row))).collect()
+}
+
+/// The other rows, numbered anew in table and state; none where a slot holds one that goes.
+fn without(problem: &Problem, table: &Table, gone: &[usize]) -> Option<Problem> {
+    let mut memory = memory_of(problem)?;
+    let anew = |row: usize| row - gone.iter().filter(|other| **other < row).count();
+    let stays = |row: &usize| !gone.contains(row);
+    let kept = (0..table.rows()).filter(stays).collect::<Vec<_>>();
+    for number in &mut memory.slot_row {
+        let row = (*number as usize).wrapping_sub(1);
+        if gone.contains(&row) {
+            return None;
+        }
+        if row < table.rows() {
+            *number = anew(row) as u32 + 1;
+        }
     }
-    let without = |row: usize| {
-        let reverse = table.reverse_of(row);
-        let rest = part(&table, |other| other != row && other != reverse);
-        let mut smaller = problem.clone();
-        smaller.state.truncate(Memory::bytes(rest.rows(), slots, places));
-        smaller.table = bytes::table_bytes(&rest);
-        smaller
+    memory.row_slot = kept.iter().map(|row| memory.row_slot[*row]).collect();
+    memory.row_mark = kept.iter().map(|row| memory.row_mark[*row]).collect();
+    let rest = Table {
+        edges: kept.iter().map(|row| table.edges[*row]).collect(),
+        reverse: kept.iter().map(|row| anew(table.reverse_of(*row)) as u32).collect(),
+        area: kept.iter().map(|row| table.area[*row]).collect(),
     };
-    (0..table.rows()).filter(|row| *row < table.reverse_of(*row)).map(without).collect()
+    Some(Problem { table: bytes::table_bytes(&rest), state: memory.encode(), ..problem.clone() })
+}
+
+/// Half the slots or places, or one less.
+fn with_less_memory(problem: &Problem) -> Vec<Problem> {
+    let less = |number: u32| [number / 2, number.saturating_sub(1)];
+    let slots = less(problem.slots).map(|slots| (slots, problem.places));
+    let places = less(problem.places).map(|places| (problem.slots, places));
+    let smaller = slots.into_iter().chain(places).filter(|sizes| *sizes != (problem.slots, problem.places));
+    smaller.filter_map(|(slots, places)| with_capacities(problem, slots, places)).collect()
+}
+
+fn with_capacities(problem: &Problem, slots: u32, places: u32) -> Option<Problem> {
+    let mut memory = memory_of(problem)?;
+    memory.cells.truncate(places as usize);
+    for numbers in [&mut memory.parent, &mut memory.rank, &mut memory.cell_mark] {
+        numbers.truncate(places as usize);
+    }
+    for numbers in [&mut memory.slot_row, &mut memory.slot_cell, &mut memory.prev, &mut memory.next] {
+        numbers.truncate(slots as usize);
+    }
+    Some(Problem { state: memory.encode(), slots, places, ..problem.clone() })
+}
+
+fn memory_of(problem: &Problem) -> Option<Memory> {
+    Memory::decode(&problem.state, problem.rows(), problem.slots as usize, problem.places as usize)
 }
 
 /// A problem in words and numbers, from which it can be made again.

@@ -3,8 +3,13 @@ use super::{Context, PLACES, Report, SLOTS, dissolve_call, fault, good_list};
 use crate::{
     problem::{Call, Problem},
     random::Random,
-    rules::{calls, lists::Kept, memory::Memory},
-    tables::{Given, damaged},
+    rules::{
+        calls,
+        cells::{lies_under, owner, resolution},
+        lists::Kept,
+        memory::Memory,
+    },
+    tables::{Given, damaged, torus::ancestor},
 };
 
 pub fn run(context: &mut Context, report: &mut Report) -> Result<(), String> {
@@ -110,12 +115,15 @@ fn damaged_state(given: &Given, random: &mut Random) -> Problem {
     with_state(given, &memory, random)
 }
 
-/// Slots in another place, links of another permutation, other parents of a legal rank, other numbers where nothing is read.
+/// Slots in another place, edges held that don't stand, coarser cells, links of another permutation, other parents of a legal rank, other numbers where nothing is read.
 fn foreign_state(given: &Given, random: &mut Random) -> Problem {
     let mut memory = good_state(given, random);
     let slots = memory.slots();
     for _ in 0..random.below(6) {
         swap_slots(&mut memory, random.below(slots), random.below(slots));
+    }
+    if random.one_in(2) {
+        put_back(given, &mut memory, random);
     }
     let used = (0..slots).filter(|slot| memory.slot_row[*slot] != 0).collect::<Vec<_>>();
     if !used.is_empty() {
@@ -129,12 +137,43 @@ fn foreign_state(given: &Given, random: &mut Random) -> Problem {
         memory.parent[place] = parent as u32;
         memory.rank[parent] += u32::from(random.one_in(2));
     }
+    // An ancestor owns the same edges, and may lie above another cell.
+    if held > 0 && memory.head[0] == 1 && random.one_in(3) {
+        let place = random.below(held);
+        let level = random.below(resolution(memory.cells[place]) as usize + 1) as u32;
+        memory.cells[place] = ancestor(memory.cells[place], level);
+    }
     for place in held..memory.places() {
         memory.cells[place] = random.number();
         memory.parent[place] = random.number() as u32;
         memory.rank[place] = random.number() as u32;
     }
     with_state(given, &memory, random)
+}
+
+/// An edge of a held cell that doesn't stand is held again, alone or with its reverse, which the rules forbid.
+fn put_back(given: &Given, memory: &mut Memory, random: &mut Random) {
+    let table = &given.table;
+    let place = |row: usize| {
+        let owner = owner(table.edges[row]);
+        memory.held_cells().iter().position(|cell| *cell == owner || lies_under(owner, *cell))
+    };
+    let cancelled = |row: &usize| memory.slot_of(*row).is_none() && place(*row).is_some();
+    let rows = (0..table.rows()).filter(|row| cancelled(row) && cancelled(&table.reverse_of(*row))).collect::<Vec<_>>();
+    if rows.is_empty() {
+        return;
+    }
+    let row = random.of(&rows);
+    let back = if random.one_in(2) { vec![row] } else { vec![row, table.reverse_of(row)] };
+    let places = back.iter().filter_map(|row| place(*row)).collect::<Vec<_>>();
+    let free = memory.free_slots().take(back.len()).collect::<Vec<_>>();
+    for ((row, place), slot) in back.into_iter().zip(places).zip(free) {
+        memory.slot_row[slot] = row as u32 + 1;
+        memory.row_slot[row] = slot as u32 + 1;
+        memory.slot_cell[slot] = place as u32;
+        memory.prev[slot] = slot as u32;
+        memory.next[slot] = slot as u32;
+    }
 }
 
 /// What the two slots hold changes places; the links go along.

@@ -85,15 +85,21 @@ pub fn good_list(given: &Given, mixed: bool, most: usize, random: &mut Random) -
 pub fn fault(given: &Given, list: &[u64], random: &mut Random) -> u64 {
     let any = *list.get(random.below(list.len().max(1))).unwrap_or(&given.cells[0]);
     let level = resolution(any);
-    match random.below(7) {
+    match random.below(8) {
         0 => any,
         1 => any ^ 1 << random.below(64),
         2 => random.number(),
         3 if level > 0 => ancestor(any, random.below(level as usize) as u32),
         4 if level < 15 => child(any, level + 1, random.below(7) as u64),
         5 => ancestor(random.of(&given.cells), 0) ^ 1 << 45,
+        6 => with_base_cell(any, random.of(&[121, 122, 127])),
         _ => random.of(&given.cells),
     }
+}
+
+/// The same digits in another base cell; there are 122.
+fn with_base_cell(cell: u64, base: u64) -> u64 {
+    (cell & !(0x7f << 45)) | (base << 45)
 }
 
 pub fn dissolve_call(problem: &Problem, mode: u32, cells: &[u64]) -> Call {

@@ -2,7 +2,7 @@
 //! of the outline and as many edges that belong to another base cell.
 use super::{Context, Report, SLOTS, dissolve_call};
 use crate::{
-    problem::Problem,
+    problem::{Call, Problem},
     random::Random,
     rules::{cells::base_cell, walk::outline},
     tables::{
@@ -71,5 +71,7 @@ fn single_cell(cell: u64, target: u32, random: &mut Random) -> Problem {
     let table = table_of_pairs(&pairs, |_| random.term());
     let mut problem = Problem::new(&table, SLOTS, 1, true);
     problem.calls.push(dissolve_call(&problem, 1, &[cell]));
+    // The slots of the state show where the walk starts.
+    problem.calls.extend([Call::open(1), Call::offer(cell)]);
     problem
 }

@@ -5,7 +5,7 @@ use crate::{random::Random, rules::table::Table};
 pub fn damage(table: &mut Table, random: &mut Random) {
     let row = random.below(table.rows());
     let other = random.below(table.rows());
-    match random.below(14) {
+    match random.below(15) {
         0 => table.edges[row] ^= 1 << random.below(64),
         1 => table.edges[row] = random.number(),
         2 => table.edges.swap(row, other),
@@ -19,6 +19,8 @@ pub fn damage(table: &mut Table, random: &mut Random) {
         10 => table.area[row] = random.of(&[f64::NAN, f64::INFINITY, f64::NEG_INFINITY, -f64::NAN]),
         11 => table.area[row] = random.of(&[f64::MAX, f64::MIN, f64::MIN_POSITIVE, 5e-324]),
         12 => remove_last(table),
+        // No base cell past 121: the last row's stays in order.
+        13 => *table.edges.last_mut().expect("a table to damage has rows") |= 0x7e << 45,
         // Another resolution, in every row alike: each stays below a valid edge only where its digits fit.
         _ => table.edges.iter_mut().for_each(|edge| *edge ^= 1 << 52),
     }

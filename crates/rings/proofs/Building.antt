@@ -2,24 +2,23 @@
 --     built-determined     any two outcomes that the promise allows are equal
 --     reading-is           the promise in the words of the calls: read out's last test, and what follows it
 -- Assumes nothing.
-use Prim.Native.Nat.{ℕ, _+_, _≤_, _<_}
-use mathlib.Core.Path.{_≡_, refl, sym, _∙_, ap, ap₂, subst}
+use Prim.Native.Nat.{ℕ, _≤_}
+use mathlib.Core.Path.{_≡_, refl, sym, _∙_, ap, ap₂}
 use mathlib.Core.Bool.{Bool, true, false, _&&_, cond}
 use mathlib.Core.Logic.{⊎-elim}
 use mathlib.Core.List.{List}
 use native.Mathlib.Omega.{arith}
 use borrow.Author.Tests.{leb-true}
 use lib.Dec.{leb}
-use lib.Ieee.{Float}
 use lib.ListN.{length}
 use Rattle.scope.specs.declared.ReadOut.{ReadOut}
 use Rattle.scope.specs.declared.ReadOut.the-variants.{Refused}
-use Rattle.scope.specs.Lists.{at, zeros}
+use Rattle.scope.specs.Lists.{zeros}
 use Rattle.scope.specs.Answers.{require}
 use Rattle.scope.specs.Table.{Table}
 use Rattle.scope.specs.Memory.{Memory, Output, output}
-use Rattle.scope.specs.Order.{View, view, ringAt, lowestRows, ordered, edgeRows, readAnswer}
-use Rattle.scope.specs.Calls.{Reading, written, outputFits, readFrom, reading}
+use Rattle.scope.specs.Order.{View, view, lowestRows, ordered, edgeRows, readAnswer}
+use Rattle.scope.specs.Calls.{written, outputFits, readFrom, reading}
 use Rattle.scope.proofs.Tests.{either, and-left, and-right}
 use Rattle.rings.specs.Marking.{CountReady, Counted}
 use Rattle.rings.specs.Views.{edgeCount}

@@ -1,26 +1,24 @@
 -- A state that passes the rules may be read out: what `build_rings` asks, from the rules and the lengths of the slices.
 -- Assumes nothing.
-use Prim.Native.Nat.{ℕ, _≤_, _<_}
+use Prim.Native.Nat.{ℕ, _<_}
 use mathlib.Core.Path.{_≡_, sym, _∙_, ap}
 use mathlib.Core.Bool.{Bool, true, _&&_}
-use mathlib.Core.Logic.{⊎-elim, _≢_}
+use mathlib.Core.Logic.{⊎-elim}
 use mathlib.Core.List.{List}
 use native.Mathlib.Omega.{arith}
 use borrow.Author.Tests.{eqb-true}
 use lib.Dec.{eqb}
 use lib.ListN.{length, List·getD-eq-default}
 use Rattle.scope.specs.Lists.{at}
-use Rattle.scope.specs.Table.{Table, rowCount}
+use Rattle.scope.specs.Table.{Table}
 use Rattle.scope.specs.Memory.{Memory, Output, held, outputsAgree}
 use Rattle.scope.specs.Order.{view}
 use Rattle.scope.proofs.Tests.{and-left, and-right, le-or-lt}
-use Rattle.scope.proofs.Tables.{TableGood}
-use Rattle.scope.proofs.Halving.{Forest}
-use Rattle.scope.proofs.Linked.{Linked, at-in}
+use Rattle.scope.proofs.Linked.{at-in}
 use Rattle.scope.proofs.Sound.{Sound, sound-table, sound-linked}
 use Rattle.rings.specs.Grouping.{Parents}
 use Rattle.rings.specs.Links.{Links}
-use Rattle.rings.specs.Views.{Readable, MarksFit}
+use Rattle.rings.specs.Views.{Readable}
 use Rattle.rings.specs.Build.{OutputFits, BuildReady}
 
 -- a list that is 0 at its places is 0 everywhere

@@ -3,7 +3,6 @@
 use Prim.Native.Nat.{ℕ, zero, suc, _+_, _-_, _≤_, _<_}
 use mathlib.Core.Path.{_≡_, refl, sym, _∙_, ap, ap₂, subst}
 use mathlib.Core.Bool.{Bool, true, false, not}
-use mathlib.Core.Logic.{_≢_}
 use mathlib.Core.List.{List, [], _∷_, _++_, append-assoc, append-nil}
 use native.Mathlib.Numerals.{add-one}
 use native.Mathlib.Omega.{arith}
@@ -14,10 +13,9 @@ use Rattle.scope.specs.Lists.{at}
 use Rattle.scope.specs.Order.{nextRow}
 use Rattle.scope.proofs.Cycle.{orbit, orbit-last}
 use Rattle.ring_order.specs.Fill.{Filling}
-use Rattle.ring_order.specs.Parts.{Part}
 use Rattle.ring_order.proofs.Fills.{filling-none, filling-next}
 use Rattle.ring_order.proofs.Parts.{drop-more, part-whole}
-use Rattle.rings.specs.Links.{Links, OnRing, ringIn, endToEnd}
+use Rattle.rings.specs.Links.{OnRing, ringIn, endToEnd}
 use Rattle.rings.specs.Laying.{LayReady, Laid, laidIn, LayAllReady, LaidAll}
 use Rattle.rings.proofs.Rounds.{turns, turns-period, turns-most, ring-rows, ring-length, Round, round-start, round-low, round-next}
 use Rattle.rings.proofs.Counting.{end-last}

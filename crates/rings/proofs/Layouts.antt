@@ -1,8 +1,7 @@
 -- Rings laid out with their areas: what stands in the places of a ring is the ring.
 -- Assumes nothing.
 use Prim.Native.Nat.{ℕ, _+_, _-_, _≤_, _<_}
-use mathlib.Core.Path.{_≡_, refl, sym, _∙_, ap, ap₂, subst}
-use mathlib.Core.Logic.{_≢_}
+use mathlib.Core.Path.{_≡_, sym, _∙_, ap, subst}
 use mathlib.Core.List.{List, _++_}
 use native.Mathlib.Omega.{arith}
 use lib.Ieee.{Float, nan}
@@ -10,9 +9,9 @@ use lib.ListN.{length, take, drop, take-append-drop}
 use lib.Seq.{slice, take-take, take-at, drop-at, getD-take, getD-drop}
 use Rattle.scope.specs.Lists.{at}
 use Rattle.scope.specs.Area.{areaOf}
-use Rattle.scope.specs.Order.{standsAt, nextRow}
+use Rattle.scope.specs.Order.{nextRow}
 use Rattle.scope.proofs.Rules.{zero-not}
-use Rattle.scope.proofs.Cycle.{iter, iter-in, orbit, orbit-at}
+use Rattle.scope.proofs.Cycle.{iter, iter-in, orbit-at}
 use Rattle.ring_order.specs.Fill.{Filling}
 use Rattle.ring_order.proofs.Fills.{filling-as}
 use Rattle.rings.specs.Links.{OnRing, ringIn, endToEnd}

@@ -1,7 +1,7 @@
 -- The loop that marks one ring: what is passed holds 1, then its lowest row 2, and no other row has changed.
 -- Assumes nothing.
-use Prim.Native.Nat.{ℕ, _+_, _≤_, _<_}
-use mathlib.Core.Path.{_≡_, refl, sym, _∙_, ap, ap₂, subst}
+use Prim.Native.Nat.{ℕ, _+_, _<_}
+use mathlib.Core.Path.{_≡_, refl, sym, _∙_, ap, subst}
 use mathlib.Core.Bool.{Bool, true, false, not, cond}
 use mathlib.Core.Logic.{_⊎_, inl, inr, ⊎-elim, _≢_}
 use mathlib.Core.List.{List, List·Memᴰ}
@@ -13,10 +13,10 @@ use lib.Seq.{getD-set-same, getD-set-other}
 use Rattle.scope.specs.Lists.{at, member}
 use Rattle.scope.specs.Order.{nextRow}
 use Rattle.scope.proofs.Tests.{either}
-use Rattle.scope.proofs.Members.{cases, member-mem, member-true, member-false, mem-dec}
+use Rattle.scope.proofs.Members.{cases, member-mem, member-true}
 use Rattle.scope.proofs.Cycle.{iter, mem-orbit, orbit-mem, around}
-use Rattle.rings.specs.Links.{ringIn, OnRing}
-use Rattle.rings.specs.Marking.{MarkReady, markWith, Marked}
+use Rattle.rings.specs.Links.{ringIn}
+use Rattle.rings.specs.Marking.{MarkReady, Marked}
 use Rattle.rings.proofs.Rounds.{turns, turns-period, ring-rows, ring-length, Round, round-start, round-low, round-next}
 
 pub record MarkInv (rowSlot slotRow next mark₀ : List ℕ) (r : ℕ) (mark : List ℕ) (k x : ℕ) (more : Bool) : Type 0 where

@@ -3,19 +3,19 @@
 --     order-is         the rings in order, by their rows
 --     polygons-are     as many polygons
 -- Assumes nothing.
-use Prim.Native.Nat.{ℕ, _≤_, _<_}
-use mathlib.Core.Path.{_≡_, refl, sym, _∙_, ap, ap₂, subst}
+use Prim.Native.Nat.{ℕ, _<_}
+use mathlib.Core.Path.{_≡_, refl, sym, _∙_, ap, ap₂}
 use mathlib.Core.Bool.{Bool, true, false, cond}
 use mathlib.Core.Logic.{⊎-elim, _≢_}
 use mathlib.Core.List.{List, [], _∷_, map}
 use native.Mathlib.Omega.{arith}
-use borrow.Author.Tests.{leb-true, leb-false, le-leb, lt-leb, eq-eqb, ne-eqb, eqb-true, eqb-false}
+use borrow.Author.Tests.{leb-true, leb-false, le-leb, lt-leb, eq-eqb, ne-eqb}
 use lib.Dec.{leb, eqb}
-use lib.Ieee.{Float, nan}
-use lib.ListN.{length, getD}
-use Rattle.scope.specs.Lists.{at, below, keep, headOr, tabulate}
+use lib.Ieee.{Float}
+use lib.ListN.{length}
+use Rattle.scope.specs.Lists.{at, below, keep, headOr}
 use Rattle.scope.specs.Area.{areaLe}
-use Rattle.scope.specs.Order.{thenBy, by, descending, sortBy, View, standsAt, nextRow, lowestRows, areaAt, groupAt, withinPolygon, outerAt, polygonOrder, ringOrder, ordered, polygonCount}
+use Rattle.scope.specs.Order.{by, sortBy, View, standsAt, nextRow, lowestRows, areaAt, groupAt, withinPolygon, outerAt, polygonOrder, ringOrder, ordered, polygonCount}
 use Rattle.scope.specs.Afresh.{startsRing}
 use Rattle.scope.proofs.Tests.{either}
 use Rattle.scope.proofs.Members.{cases}

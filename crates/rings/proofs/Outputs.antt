@@ -1,19 +1,17 @@
 -- What `write_rings` leaves: each output holds what document 01 has written, and past it what it held.
 -- Assumes nothing.
-use Prim.Native.Nat.{ℕ, _+_, _-_, _≤_, _<_}
+use Prim.Native.Nat.{ℕ, _+_, _≤_, _<_}
 use mathlib.Core.Path.{_≡_, refl, sym, _∙_, ap, ap₂, subst}
-use mathlib.Core.Bool.{Bool, true, false, cond}
 use mathlib.Core.Logic.{_≢_}
 use mathlib.Core.List.{List, [], _∷_, map}
 use native.Mathlib.Omega.{arith}
 use borrow.Author.Tests.{eq-eqb}
-use lib.Dec.{eqb}
 use lib.Ieee.{Float, nan}
 use lib.ListN.{length, getD, take, drop, replicate, length-replicate}
 use Rattle.scope.specs.declared.ReadOut.{ReadOut}
 use Rattle.scope.specs.Lists.{at, zeros, headOr}
 use Rattle.scope.specs.Area.{areaOf}
-use Rattle.scope.specs.Memory.{Output, output}
+use Rattle.scope.specs.Memory.{output}
 use Rattle.scope.specs.Order.{View, ringAt, lowestRows, areaAt, groupAt, ordered, starts, sizes, edgeRows, polygonCount, readAnswer}
 use Rattle.scope.specs.Calls.{over, written}
 use Rattle.scope.proofs.Members.{cases}
@@ -22,14 +20,14 @@ use Rattle.scope.proofs.Below.{map-at, map-length, tabulate-length}
 use Rattle.ring_order.specs.Keys.{outersOf, outerOf}
 use Rattle.ring_order.specs.Fill.{Filling, picked}
 use Rattle.ring_order.specs.Ordered.{Ordered}
-use Rattle.ring_order.proofs.Fills.{filling-as, filling-over, filling-is}
+use Rattle.ring_order.proofs.Fills.{filling-over, filling-is}
 use Rattle.ring_order.proofs.Parts.{drop-more}
 use Rattle.rings.specs.Links.{endToEnd, ringIn}
 use Rattle.rings.specs.Laying.{laidIn, termsOf, LaidOut}
 use Rattle.rings.specs.Views.{edgeCount, Surveyed}
 use Rattle.rings.specs.Build.{answerOf, WriteReady, Wrote}
 use Rattle.rings.proofs.Matching.{polygons-are}
-use Rattle.rings.proofs.Writing.{starts-length, starts-at, numbered, n-edges, write-order, order, count-ordered, count-order, number-at, number-low, ordered-at, row-at, rows-are, front, laid-is, laid-count, edges-length, size-length, ordered-edges, ordered-count}
+use Rattle.rings.proofs.Writing.{starts-length, starts-at, numbered, n-edges, write-order, order, count-ordered, count-order, number-at, number-low, ordered-at, row-at, rows-are, front, laid-is, laid-count, edges-length, size-length, ordered-edges}
 
 -- ---- the answer
 

@@ -1,7 +1,7 @@
 -- The marks of the cells' groups: climbing to a mark or a root, marking the way up, and the pass over the cells.
 -- Assumes nothing.
 use Prim.Native.Nat.{ℕ, zero, suc, _+_, _*_, _≤_, _<_}
-use mathlib.Core.Path.{_≡_, refl, sym, _∙_, ap, subst}
+use mathlib.Core.Path.{_≡_, refl, sym, _∙_, ap}
 use mathlib.Core.Bool.{Bool, true, false, cond}
 use mathlib.Core.Logic.{_⊎_, inl, inr, ⊎-elim, _≢_}
 use mathlib.Core.List.{List}
@@ -15,7 +15,7 @@ use Rattle.scope.specs.Lists.{at}
 use Rattle.scope.specs.UnionFind.{climb, rootOf}
 use Rattle.scope.specs.Order.{groupOf}
 use Rattle.scope.proofs.Members.{cases}
-use Rattle.rings.specs.Grouping.{Parents, GroupPass, PathReady, PaintReady, Painted, GroupsReady, Grouped}
+use Rattle.rings.specs.Grouping.{GroupPass, PathReady, PaintReady, Painted, GroupsReady, Grouped}
 use Rattle.rings.proofs.Paths.{depth, depth-up, root-up, root-own, group-same, group-lowest, group-low}
 
 -- marks go up to the root

@@ -4,8 +4,8 @@
 --     group-lowest     a cell whose root no lower cell has is the lowest of its group; `group-same`: cells of one root are of one group; `group-low`: it is no later
 -- Assumes nothing.
 use Prim.Native.Nat.{ℕ, zero, suc, _+_, _-_, _≤_, _<_}
-use mathlib.Core.Path.{_≡_, refl, sym, _∙_, ap, subst}
-use mathlib.Core.Bool.{Bool, cond, not}
+use mathlib.Core.Path.{_≡_, refl, sym, _∙_, ap}
+use mathlib.Core.Bool.{cond, not}
 use mathlib.Core.Logic.{_≢_}
 use mathlib.Core.List.{List}
 use native.Mathlib.Omega.{arith}
@@ -13,7 +13,7 @@ use borrow.Author.Tests.{eq-eqb, ne-eqb}
 use lib.Dec.{eqb}
 use lib.ListN.{length}
 use Rattle.scope.specs.Lists.{at, firstBad}
-use Rattle.scope.specs.UnionFind.{climb, rootOf}
+use Rattle.scope.specs.UnionFind.{rootOf}
 use Rattle.scope.specs.Order.{groupOf}
 use Rattle.scope.proofs.Tests.{clash}
 use Rattle.scope.proofs.Scan.{firstBad-lowest, firstBad-is}

@@ -1,29 +1,27 @@
 -- `survey_rings`: the calls in a row. Each step has what the next one asks, and the last what the function promises.
 -- Assumes nothing.
-use Prim.Native.Nat.{ℕ, suc, _+_, _-_, _≤_, _<_}
-use mathlib.Core.Path.{_≡_, refl, sym, _∙_, ap, ap₂, subst}
-use mathlib.Core.Bool.{Bool, true}
+use Prim.Native.Nat.{ℕ, _-_, _<_}
+use mathlib.Core.Path.{_≡_, refl, sym, _∙_, ap, subst}
 use mathlib.Core.Logic.{_≢_}
 use mathlib.Core.List.{List, [], _∷_, _++_}
 use native.Mathlib.Omega.{arith}
 use lib.Dec.{eqb}
-use lib.Ieee.{Float, nan}
+use lib.Ieee.{Float}
 use lib.ListN.{length, take, drop, length-replicate, getD-replicate}
 use lib.Seq.{ext-getD, getD-take}
 use Rattle.scope.specs.Lists.{at, zeros}
-use Rattle.scope.specs.Area.{areaOf}
-use Rattle.scope.specs.Order.{View, standsAt, ringAt, lowestRows, groupOf, groupAt, areaAt, edgeRows}
+use Rattle.scope.specs.Order.{View, ringAt, lowestRows, groupAt, areaAt, edgeRows}
 use Rattle.scope.proofs.Rules.{not-zero}
 use Rattle.scope.proofs.Linked.{at-in}
 use Rattle.scope.proofs.Below.{below-passes, below-same}
 use Rattle.scope.proofs.Rings.{starts-stand}
 use Rattle.ring_order.specs.Fill.{Filling}
 use Rattle.ring_order.proofs.Fills.{filling-as, filling-over}
-use Rattle.rings.specs.Links.{endToEnd, ringIn, startsIn}
+use Rattle.rings.specs.Links.{endToEnd, startsIn}
 use Rattle.rings.specs.Marking.{twosBelow, ListReady, Listed}
-use Rattle.rings.specs.Laying.{laidIn, termsOf, OutReady, LaidOut}
-use Rattle.rings.specs.Grouping.{GroupsReady, Grouped, cellIn, CellReady, markedGroup, RingGroupsReady}
-use Rattle.rings.specs.Views.{Readable, MarksFit, edgeCount, SurveyReady, Surveyed}
+use Rattle.rings.specs.Laying.{laidIn, OutReady, LaidOut}
+use Rattle.rings.specs.Grouping.{GroupsReady, Grouped, cellIn, markedGroup, RingGroupsReady}
+use Rattle.rings.specs.Views.{Readable, SurveyReady, Surveyed}
 use Rattle.rings.proofs.Rounds.{links-permute}
 
 pub edge-rows : (v : View) (l : List ℕ) → edgeRows v l ≡ endToEnd (ringAt v) l

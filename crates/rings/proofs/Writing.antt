@@ -1,34 +1,32 @@
 -- `write_rings`: the calls in a row, each with what it asks: the rings in their order, by number in the edge list and by row in the marks.
 -- Assumes nothing.
-use Prim.Native.Nat.{ℕ, zero, suc, _+_, _-_, _≤_, _<_}
-use mathlib.Core.Path.{_≡_, refl, sym, _∙_, ap, ap₂, subst}
+use Prim.Native.Nat.{ℕ, zero, suc, _+_, _≤_, _<_}
+use mathlib.Core.Path.{_≡_, refl, sym, _∙_, ap, subst}
 use mathlib.Core.Logic.{_≢_}
-use mathlib.Core.List.{List, [], _∷_, _++_, map}
+use mathlib.Core.List.{List, [], _∷_, _++_}
 use native.Mathlib.Omega.{arith}
-use lib.Ieee.{Float, nan}
-use lib.ListN.{length, getD, take, drop, length-append, length-replicate}
+use lib.Ieee.{Float}
+use lib.ListN.{length, take, length-append, length-replicate}
 use lib.Seq.{take-take, take-all}
-use Rattle.scope.specs.Lists.{at, zeros}
-use Rattle.scope.specs.Memory.{Output, output}
-use Rattle.scope.specs.Order.{View, ringAt, lowestRows, areaAt, groupOf, groupAt, ordered, starts, sizes, edgeRows, ringOrder, polygonCount}
+use Rattle.scope.specs.Lists.{at}
+use Rattle.scope.specs.Memory.{output}
+use Rattle.scope.specs.Order.{View, ringAt, lowestRows, groupAt, ordered, starts, edgeRows, ringOrder}
 use Rattle.scope.specs.Calls.{over}
 use Rattle.scope.specs.Afresh.{ring}
-use Rattle.scope.proofs.Over.{over-front, over-back, over-at, over-length, front-over}
+use Rattle.scope.proofs.Over.{over-front, over-at, over-length}
 use Rattle.scope.proofs.Below.{below-count, map-at, map-length, tabulate-length}
 use Rattle.scope.proofs.Sorting.{all-at, sort-length}
 use Rattle.scope.proofs.Sorted.{Perm, none, skip, swap, both, sort-perm}
-use Rattle.ring_order.specs.Keys.{areaIn, orderOf, outersOf, polygonsOf}
-use Rattle.ring_order.specs.Fill.{Filling, picked, GatherReady}
+use Rattle.ring_order.specs.Keys.{orderOf, outersOf}
+use Rattle.ring_order.specs.Fill.{GatherReady}
 use Rattle.ring_order.specs.Ordered.{OrderReady, Ordered}
-use Rattle.ring_order.proofs.Fills.{filling-as, filling-over, filling-is}
-use Rattle.ring_order.proofs.Parts.{drop-more}
 use Rattle.rings.specs.Links.{endToEnd, startsIn}
-use Rattle.rings.specs.Laying.{laidIn, OutReady, LaidOut}
+use Rattle.rings.specs.Laying.{laidIn, OutReady}
 use Rattle.rings.specs.Grouping.{cellIn}
 use Rattle.rings.specs.Views.{edgeCount, Surveyed}
 use Rattle.rings.specs.Build.{WriteReady}
 use Rattle.rings.proofs.Paths.{group-low}
-use Rattle.rings.proofs.Matching.{Numbered, order-numbers, order-is, order-all-low, polygons-are}
+use Rattle.rings.proofs.Matching.{Numbered, order-numbers, order-is, order-all-low}
 use Rattle.rings.proofs.Surveys.{edge-rows, lowest-stands, cell-ready}
 
 -- ---- rings in another order

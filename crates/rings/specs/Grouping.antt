@@ -4,7 +4,7 @@ use Prim.Native.Nat.{ℕ, suc, _+_, _-_, _≤_, _<_}
 use mathlib.Core.Path.{_≡_}
 use mathlib.Core.Logic.{_≢_}
 use mathlib.Core.List.{List}
-use lib.ListN.{length, drop}
+use lib.ListN.{length}
 use Rattle.scope.specs.Lists.{at}
 use Rattle.scope.specs.Order.{groupOf}
 use Rattle.scope.proofs.Halving.{Forest}

@@ -1,7 +1,7 @@
 // Going round the rings of a state: the next row, a ring marked, all rings counted and listed.
 ghost use mathlib.Core.Path.{_≡_};
 ghost use lib.ListN.{length};
-ghost use Prim.Native.Nat.{_<_, _≤_};
+ghost use Prim.Native.Nat.{_<_};
 ghost use Rattle.scope.specs.Order.{nextRow};
 ghost use Rattle.rings.specs.Links.{OnRing};
 ghost use Rattle.rings.specs.Marking.{MarkReady, Marked, unmarked, CountReady, Counted, ListReady, Listed};

@@ -2,7 +2,7 @@
 --     over-front, over-back, over-at, over-length     the new values come first, then what lay behind their places
 --     front-over                                      a list whose front holds the new values and whose rest is the old one's
 -- Assumes nothing.
-use Prim.Native.Nat.{ℕ, _+_, _-_, _≤_, _<_}
+use Prim.Native.Nat.{ℕ, _≤_, _<_}
 use mathlib.Core.Path.{_≡_, refl, sym, _∙_, ap, ap₂}
 use mathlib.Core.List.{List, _++_}
 use native.Mathlib.Omega.{arith}

@@ -4,9 +4,8 @@
 use Prim.Native.Nat.{ℕ}
 use mathlib.Core.Path.{_≡_}
 use mathlib.Core.List.{List}
-use lib.Dec.{leb}
 use Rattle.scope.specs.Area.{areaLe}
-use Rattle.scope.specs.Order.{View, by, descending, areaAt, outerAt, withinPolygon, polygonOrder, ringOrder, lowestRows, ordered}
+use Rattle.scope.specs.Order.{View, by, areaAt, outerAt, withinPolygon, polygonOrder, ringOrder, lowestRows, ordered}
 use Rattle.scope.proofs.Orders.{Order, Decides, order-by, order-descending, order-thenBy, decides-thenBy, order-leb, decides-leb}
 use Rattle.scope.proofs.Sorted.{Perm, Ascends, sort-perm, sort-ascends, sort-unique}
 use Rattle.scope.proofs.AreaOrder.{order-area}

@@ -2,7 +2,6 @@
 -- Assumes nothing.
 use native.Mathlib.Omega.{arith}
 use borrow.Author.Needs.{needs}
-use mathlib.Core.Path.{_∙_, ap}
 use Rattle.scope.proofs.Linked.{at-in}
 use Rattle.rings.proofs.groups.ring_group.Statement.{statement}
 use Rattle.rings.proofs.groups.ring_group.Tie as tie

@@ -2,7 +2,6 @@
 -- Assumes nothing.
 use native.Mathlib.Omega.{arith}
 use Prim.Native.Nat.{_-_}
-use mathlib.Core.Path.{_∙_, ap}
 use Rattle.scope.specs.Lists.{at}
 use Rattle.rings.specs.Grouping.{cellIn, markedGroup, RingGroupsReady}
 use Rattle.ring_order.proofs.Fills.{Filler, fill-begin, fill-next, fill-done}

@@ -1,7 +1,7 @@
 -- `walk/mark_ring` meets its contract. The invariant: what is passed is marked, and no other row has changed.
 -- Assumes nothing.
 use native.Mathlib.Omega.{arith}
-use Prim.Native.Nat.{_+_, _-_}
+use Prim.Native.Nat.{_-_}
 use lib.ListN.{length}
 use Rattle.rings.proofs.Rounds.{round-on, round-most}
 use Rattle.rings.proofs.Marks.{MarkInv, mark-start, mark-in, mark-next, mark-end, mark-last}

@@ -2,8 +2,6 @@
 -- Assumes nothing.
 use native.Mathlib.Omega.{arith}
 use borrow.Author.Needs.{needs}
-use mathlib.Core.Path.{_∙_, ap}
-use Rattle.scope.specs.Lists.{at}
 use Rattle.rings.proofs.Rounds.{next-in}
 use Rattle.rings.proofs.walk.next_row.Statement.{statement}
 use Rattle.rings.proofs.walk.next_row.Tie as tie

@@ -87,10 +87,20 @@ stateIn rows slots places b = memory
     (column32 b (slotsFrom places + 8 * slots) 4 slots) (column32 b (slotsFrom places + 12 * slots) 4 slots)
     (column32 b (rowsFrom slots places) 4 rows) (column32 b (rowsFrom slots places + 4 * rows) 4 rows)
 
+abbrev pub placesBytes : List ℕ → List ℕ → List ℕ → List ℕ → List ℕ → List ℕ
+placesBytes head cells parent rank cellMark = all32 head ++ all64 cells ++ all32 parent ++ all32 rank ++ all32 cellMark
+
+abbrev pub slotsBytes : List ℕ → List ℕ → List ℕ → List ℕ → List ℕ
+slotsBytes slotRow slotCell prev next = all32 slotRow ++ all32 slotCell ++ all32 prev ++ all32 next
+
+abbrev pub rowsBytes : List ℕ → List ℕ → List ℕ
+rowsBytes rowSlot rowMark = all32 rowSlot ++ all32 rowMark
+
 unfoldable pub stateBytes : Memory → List ℕ
 stateBytes m =
-    all32 (m .head) ++ all64 (m .cells) ++ all32 (m .parent) ++ all32 (m .rank) ++ all32 (m .cellMark)
-    ++ all32 (m .slotRow) ++ all32 (m .slotCell) ++ all32 (m .prev) ++ all32 (m .next) ++ all32 (m .rowSlot) ++ all32 (m .rowMark)
+    placesBytes (m .head) (m .cells) (m .parent) (m .rank) (m .cellMark)
+    ++ slotsBytes (m .slotRow) (m .slotCell) (m .prev) (m .next)
+    ++ rowsBytes (m .rowSlot) (m .rowMark)
 
 -- ---- what is answered
 

@@ -1,0 +1,2 @@
+// The static library for Rust and C.
+mod columns;

@@ -14,7 +14,7 @@ use crate::{
 
 pub fn run(context: &mut Context, report: &mut Report) -> Result<(), String> {
     let tables = context.regular_tables()?;
-    for round in 0..context.rounds(1500) {
+    for round in 0..context.rounds(4000) {
         let given = &tables[round % tables.len()];
         let random = &mut context.random;
         report.check(&damaged_table(given, random))?;

@@ -10,7 +10,7 @@ pub fn run(context: &mut Context, report: &mut Report) -> Result<(), String> {
         whole.calls.push(dissolve_call(&whole, 1, &given.coarser));
         report.check(&whole)?;
     }
-    for round in 0..context.rounds(3000) {
+    for round in 0..context.rounds(6000) {
         let random = &mut context.random;
         let given = &tables[round % tables.len()];
         let mode = random.of(&[0, 1, 1, 2]);

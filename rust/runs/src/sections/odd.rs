@@ -15,7 +15,7 @@ pub fn run(context: &mut Context, report: &mut Report) -> Result<(), String> {
         report.problem();
         oddity.ask_the_rust(report)?;
     }
-    for _ in 0..context.rounds(600) {
+    for _ in 0..context.rounds(2000) {
         let random = &mut context.random;
         let (width, height) = (1 + random.below(3) as i64, 1 + random.below(2) as i64);
         let mut cells = torus(width.max(3), height, random.below(2) as u32, random).cells;

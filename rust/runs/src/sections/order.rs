@@ -12,7 +12,7 @@ use std::collections::BTreeMap;
 
 pub fn run(context: &mut Context, report: &mut Report) -> Result<(), String> {
     let tables = context.regular_tables()?;
-    for round in 0..context.rounds(150) {
+    for round in 0..context.rounds(400) {
         report.problem();
         let random = &mut context.random;
         let given = &tables[round % tables.len()];

@@ -8,7 +8,7 @@ use crate::{
 
 pub fn run(context: &mut Context, report: &mut Report) -> Result<(), String> {
     let tables = context.regular_tables()?;
-    for round in 0..context.rounds(300) {
+    for round in 0..context.rounds(1200) {
         let given = &tables[round % tables.len()];
         report.check(&script(given, true, &mut context.random))?;
     }

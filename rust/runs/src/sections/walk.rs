@@ -15,7 +15,7 @@ use crate::{
 const DEEPEST_IN_A_TABLE: u32 = 4;
 
 pub fn run(context: &mut Context, report: &mut Report) -> Result<(), String> {
-    for _ in 0..context.rounds(6) {
+    for _ in 0..context.rounds(10) {
         for resolution in 0..=15 {
             let cells = [hexagon(resolution, &mut context.random), pentagon(resolution, &mut context.random)];
             for cell in cells {

@@ -1,8 +1,10 @@
 // The ring list as a lent slice of records, filled from the four plain slices that the core writes.
 // Thin functions: all that decides a number is in the core.
+use scope::ReadOut;
 ghost use mathlib.Core.Path.{_≡_};
 ghost use Prim.Native.Nat.{_<_};
 ghost use lib.ListN.{length};
+ghost use Rattle.scope.specs.Answers.{ringsOf};
 ghost use Rattle.ring_list.specs.Records.{recordAt, filled, Enough};
 
 #[repr(C)]
@@ -23,6 +25,18 @@ fn record_at(starts: &[u32], lengths: &[u32], groups: &[u32], areas: &[f64], i: 
         length: lengths[i],
         group: groups[i],
         area: areas[i],
+    }
+}
+
+// How many rings an answer of the core has written, so how many records there are to fill.
+pub fn ring_count(answer: ReadOut) -> usize
+    ensures { λ r. ⌜ r ≡ ringsOf answer ⌝ }
+{
+    match answer {
+        ReadOut::Nothing => 0,
+        ReadOut::Closed => 0,
+        ReadOut::Outline(_, rings, _) => rings,
+        ReadOut::Refused(_, _) => 0,
     }
 }
 

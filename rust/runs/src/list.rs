@@ -12,21 +12,26 @@
 //!
 //! Rows, cells, results and outputs are those of the byte entry points. Every list lies in the domain of the runs, and its answer is the
 //! oracle's: the refusal's kind, or polygons, rings, areas and order. What the Rust doesn't answer comes from document 01's rules: a
-//! refusal's index, and the number that a group is written as. The list is always the same; `runs list` writes it anew.
+//! refusal's index, and the number that a group is written as. `runs list > answers.list` has made the file beside this crate's sources, and
+//! makes the same one again; the runs replay it first of all, also where the Rust's texts are not at hand.
 use crate::{
     problem::{Counts, Problem, run},
     random::Random,
     rules::bytes::{self, HEAD, cell_bytes, table_bytes},
     sections::{dissolve_call, fault, good_list},
+    subject,
     tables::{
         Given,
         real::Folder,
         torus::{ancestor, torus},
     },
 };
-use std::io::Write as _;
+use std::{fs, io::Write as _};
 
 const SEED: u64 = 11;
+const RECORD: usize = 32;
+/// What fills an output before a call.
+const FILL: u8 = 0xA5;
 const SLOTS: u32 = 1024;
 const PLACES: u32 = 256;
 
@@ -57,6 +62,36 @@ pub fn write(folder: &Folder) -> Result<(), String> {
     let dissolves = list.dissolves;
     list.record(0, dissolves, 0, &[], &[]);
     std::io::stdout().write_all(&list.bytes).map_err(|error| error.to_string())
+}
+
+/// Puts the list of the repository to the library; how many answers it has.
+pub fn replay() -> Result<u32, String> {
+    let path = concat!(env!("CARGO_MANIFEST_DIR"), "/answers.list");
+    let bytes = fs::read(path).map_err(|error| format!("{path}: {error}"))?;
+    let (mut rest, mut table, mut dissolves) = (bytes.as_slice(), [].as_slice(), 0);
+    while rest.len() >= RECORD {
+        let (head, after) = rest.split_at(RECORD);
+        let number = |at: usize| u32::from_le_bytes(head[at..at + 4].try_into().expect("four bytes"));
+        let result = u64::from(number(20)) << 32 | u64::from(number(16));
+        let (input, after) = after.split_at_checked(number(24) as usize).ok_or("the list ends in a record")?;
+        let (output, after) = after.split_at_checked(number(28) as usize).ok_or("the list ends in a record")?;
+        match number(0) {
+            1 => table = input,
+            2 => {
+                dissolves += 1;
+                let mut out = vec![FILL; output.len() + 4];
+                let answer = subject::dissolve(table, input, &mut out, number(4), number(8), number(12));
+                let (written, past) = out.split_at(if answer == 0 { output.len() } else { 0 });
+                if answer != result || written != output || past.iter().any(|byte| *byte != FILL) {
+                    return Err(format!("list: dissolve {dissolves} of {path} is answered otherwise"));
+                }
+            }
+            _ if number(4) == dissolves => return Ok(dissolves),
+            _ => break,
+        }
+        rest = after;
+    }
+    Err(format!("{path} has no end record, or lacks dissolves"))
 }
 
 /// The empty list, each cell, and every two of them, an equal pair and a coarser cell included.

@@ -23,7 +23,7 @@ use tables::real::Folder;
 const HELP: &str = "\
 runs [--seed N] [--rounds N] [--tables FOLDER] [SECTION...]
     Compares the library with document 01's rules and with the Rust, and ends with status 1 at the first difference, with the smallest
-    input that shows it. Without a section, all of them run:
+    input that shows it. The fixed list of the Rust's answers is replayed first. Without a section, all of them run:
       walk      outlines, alone and through dissolve
       short     every list of up to four cells on two small tables, in every mode
       dissolve  random lists on real and hand-made tables, in every mode
@@ -86,7 +86,9 @@ fn compare(arguments: &Arguments, names: &[&str]) -> Result<(), String> {
     if let Some(name) = names.iter().find(|name| SECTIONS.iter().all(|(section, _)| section != *name)) {
         return Err(format!("no section {name}; see --help"));
     }
-    if !all_is_there(&arguments.folder)? {
+    let all_is_there = all_is_there(&arguments.folder)?;
+    println!("list: {} answers of the fixed list, no difference", list::replay()?);
+    if !all_is_there {
         return Ok(());
     }
     for (number, (name, section)) in SECTIONS.iter().enumerate() {
@@ -102,11 +104,11 @@ fn compare(arguments: &Arguments, names: &[&str]) -> Result<(), String> {
     Ok(())
 }
 
-/// Says in a line what is missing; an error where CI is set. Without the tables nothing is compared.
+/// Says in a line what is missing; an error where CI is set. Without the tables only the fixed list is replayed.
 fn all_is_there(tables: &Folder) -> Result<bool, String> {
     let library = "the library (target/staticlib/libhost.a) was not there when this was built: the rules are compared with the Rust alone";
     let texts = "the Rust's texts were not there when this was built: the library is compared with the rules alone";
-    let folder = format!("no real tables in {}: the comparison is left out", tables.0.display());
+    let folder = format!("no real tables in {}: only the fixed list is replayed", tables.0.display());
     let parts = [(subject::AVAILABLE, library), (oracle::AVAILABLE, texts), (tables.is_there(), folder.as_str())];
     for (_, missing) in parts.iter().filter(|(there, _)| !there) {
         if env::var_os("CI").is_some() {

@@ -2,6 +2,7 @@
 //! resolution other than the target. Rings compare as cycles, areas bit for bit, and ties go as document 01 settles them.
 use crate::rules::{lists::Kept, rings::ReadOut, table::Table};
 
+#[cfg_attr(not(h3o), allow(dead_code))]
 pub enum Compared {
     Same,
     LeftOut(&'static str),

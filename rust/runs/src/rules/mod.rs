@@ -1,10 +1,13 @@
 //! Document 01's rules, stated a second time: in plain Rust, from the document's words, with sets, maps and slow loops where they are the
-//! plainest. Nothing here is taken from the Rattle code, from its definitions or from h3o, so that an error would have to be made twice to
-//! stay unseen. The lent memory has the library's layout, so that every byte can be compared.
+//! plainest. It shares no code with the Rattle crates or with h3o, so that an error would have to be made twice to stay unseen; what the
+//! document takes from h3o by name (the adder's operations, the steps of find and union) is written out again. The lent memory has the
+//! library's layout, so that every byte can be compared.
 pub mod afresh;
 pub mod bytes;
 pub mod calls;
 pub mod cells;
+#[cfg(test)]
+mod examples;
 pub mod lists;
 pub mod memory;
 pub mod pool;

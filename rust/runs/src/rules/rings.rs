@@ -81,7 +81,7 @@ fn around(next: &BTreeMap<usize, usize>, first: usize) -> Vec<usize> {
 }
 
 /// The adder's two floats go from term to term; each operation rounds once.
-fn area(table: &Table, rows: &[usize]) -> f64 {
+pub fn area(table: &Table, rows: &[usize]) -> f64 {
     let add = |(sum, correction): (f64, f64), term: f64| {
         let mended = term - correction;
         let total = sum + mended;

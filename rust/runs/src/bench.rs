@@ -92,8 +92,8 @@ fn at_full_size(big: &Given) -> Result<(), String> {
 #[cfg(exports)]
 fn at_full_size(big: &Given) -> Result<(), String> {
     use crate::{
-        exports::{self, Outputs},
         rules::memory::Memory,
+        subject::exports::{self, Outputs},
     };
     const SLOTS: usize = 65_536;
     const PLACES: usize = 16_384;

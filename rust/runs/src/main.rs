@@ -1,8 +1,5 @@
 //! The runs: the library under test against document 01's rules (`rules`) and against the Rust (`oracle`).
 mod bench;
-#[cfg(exports)]
-#[rustfmt::skip]
-mod exports;
 mod list;
 mod oracle_answer;
 mod problem;

@@ -115,7 +115,8 @@ fn damaged_state(given: &Given, random: &mut Random) -> Problem {
     with_state(given, &memory, random)
 }
 
-/// Slots in another place, edges held that don't stand, coarser cells, links of another permutation, other parents of a legal rank, other numbers where nothing is read.
+/// Slots in another place, edges held that don't stand, coarser cells, links of another permutation, other parents of a legal rank, other
+/// numbers where nothing is read.
 fn foreign_state(given: &Given, random: &mut Random) -> Problem {
     let mut memory = good_state(given, random);
     let slots = memory.slots();

@@ -1,4 +1,9 @@
-//! The library under test, behind its two byte entry points. All that is unsafe in the runs is here.
+//! The library under test, behind its two byte entry points; `exports` has its calls at full size, for the benchmark. All that is unsafe in
+//! the runs is in this module.
+
+#[cfg(exports)]
+#[rustfmt::skip]
+pub mod exports;
 
 /// Whether the static library was there when this was built.
 pub const AVAILABLE: bool = cfg!(subject);

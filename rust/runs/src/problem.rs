@@ -133,7 +133,7 @@ impl Runner<'_> {
             let mut theirs = vec![FILL; room];
             let result = subject::dissolve(table, cells, &mut theirs, mode, slots, places);
             same_result(answer, result)?;
-            same_bytes("output", &out, &theirs)?;
+            same_bytes("output", ("the rules", &out), ("the library", &theirs))?;
         }
         let Some(kept) = Kept::of(mode.into()) else {
             return Ok(());
@@ -151,8 +151,8 @@ impl Runner<'_> {
             let (mut state, mut theirs) = (before, vec![FILL; room]);
             let result = subject::standing(table, &mut state, &mut theirs, slots, places, call, value);
             same_result(answer, result)?;
-            same_bytes("state", &self.state, &state)?;
-            same_bytes("output", &out, &theirs)?;
+            same_bytes("state", ("the rules", &self.state), ("the library", &state))?;
+            same_bytes("output", ("the rules", &out), ("the library", &theirs))?;
         }
         match (call, answer) {
             (0, 0) => self.taken = Kept::of(value).map(|kept| (kept, Vec::new())),
@@ -202,13 +202,10 @@ impl Runner<'_> {
     ) -> Result<(), Difference> {
         let defined = match answer {
             0 => {
-                let read =
-                    afresh::dissolve(&self.table, cells).ok_or("accepted, but an outline is not in the table")?;
-                same_bytes(
-                    "output, against the definitions",
-                    &bytes::encode(&read),
-                    &out[..bytes::encode(&read).len()],
-                )?;
+                let read = afresh::dissolve(&self.table, cells).ok_or("an outline of an accepted cell is not there")?;
+                let bytes = bytes::encode(&read);
+                let written = out.get(..bytes.len()).unwrap_or(out);
+                same_bytes("output", ("the definitions", &bytes), ("the rules", written))?;
                 Ok(read)
             }
             _ => Err((answer >> 32) as u32),
@@ -237,13 +234,16 @@ fn same_result(rules: u64, subject: u64) -> Result<(), Difference> {
     Err(format!("the rules say {}, the library says {}", words(rules), words(subject)))
 }
 
-fn same_bytes(what: &str, rules: &[u8], subject: &[u8]) -> Result<(), Difference> {
-    match rules.iter().zip(subject).position(|(a, b)| a != b) {
-        None if rules.len() == subject.len() => Ok(()),
-        at => {
-            let at = at.unwrap_or(rules.len().min(subject.len()));
-            let near = |bytes: &[u8]| format!("{:02x?}", &bytes[at / 4 * 4..bytes.len().min(at / 4 * 4 + 8)]);
-            Err(format!("{what}: byte {at}: {} by the rules, {} by the library", near(rules), near(subject)))
-        }
+/// The bytes of two, each with its name.
+fn same_bytes(what: &str, one: (&str, &[u8]), other: (&str, &[u8])) -> Result<(), Difference> {
+    let at = one.1.iter().zip(other.1).position(|(a, b)| a != b);
+    if at.is_none() && one.1.len() == other.1.len() {
+        return Ok(());
     }
+    let at = at.unwrap_or(one.1.len().min(other.1.len()));
+    let near = |(name, bytes): (&str, &[u8])| {
+        let word = at / 4 * 4;
+        format!("{:02x?} by {name}", &bytes[word..bytes.len().min(word + 8)])
+    };
+    Err(format!("{what}, byte {at}: {}, {}", near(one), near(other)))
 }

@@ -24,7 +24,7 @@ use Rattle.scope.proofs.Odometer.{Fine, move-fine, move-after}
 use Rattle.scope.proofs.LevelRuns.{move-other}
 use Rattle.scope.proofs.EdgeDigits.{edge-head, edge-digit, edge-again}
 use Rattle.gosper.specs.declared.Gosper.{Gosper}
-use Rattle.gosper.specs.declared.Written.{Written}
+use Rattle.gosper.specs.declared.levels.Written.{Written}
 use Rattle.gosper.specs.Levels.{withDigit, written, DigitSet, Levels, Leaves, overFinest}
 use Rattle.gosper.specs.Walking.{walkOf, turned, gosperAt, Walking}
 use Rattle.gosper.proofs.OneDigit.{old-le}

@@ -21,7 +21,7 @@ use Rattle.scope.specs.Walk.{Moved, walkDigit, nextPosition, still, levelStep, 
 use Rattle.scope.proofs.Spell.{spell-read, spell-put}
 use Rattle.scope.proofs.Walks.{walkDigit-lt, cond-lt, settled, settled-yes, settled-no, move-is}
 use Rattle.scope.proofs.Odometer.{Fine, set-fine}
-use Rattle.gosper.specs.declared.Written.{Written}
+use Rattle.gosper.specs.declared.levels.Written.{Written}
 use Rattle.gosper.specs.Levels.{withDigit, written, Top, MovesLevel, Leaves, overFinest}
 use Rattle.gosper.proofs.OneDigit.{old-le}
 

@@ -20,7 +20,7 @@ use Rattle.scope.proofs.WalkCounts.{edges-count}
 use Rattle.scope.proofs.WalkOwners.{step-turns}
 use Rattle.scope.proofs.EdgeDigits.{edges-again}
 use Rattle.gosper.specs.declared.Gosper.{Gosper}
-use Rattle.gosper.specs.Walking.{walkOf, turned, nextWalk, next, gosperAt, Walking, rest, Steps}
+use Rattle.gosper.specs.Walking.{walkOf, turned, nextWalk, next, movedTo, Walking, rest, Steps}
 use Rattle.gosper.proofs.Walkings.{walk-at, walking-at, fine-walk, at-again}
 
 -- at the cell's resolution a step moves the edge position alone
@@ -81,10 +81,6 @@ module _ (g : Gosper) (walking : Walking g) where
 
 -- ---- the code's ways to the next walk
 
--- a state with another walk
-abbrev pub standing : Gosper → Walk → Gosper
-standing g w = gosperAt (g .scratchpad) (g .parent) (g .child) (g .skips) (g .count) w
-
 -- a state, handed over: one edge fewer, and nothing more to pass over
 abbrev pub counted : Gosper → Gosper
 counted g =
@@ -101,35 +97,35 @@ counted g =
 
 module _ (g : Gosper) (walking : Walking g) where
   -- below the cell's resolution nothing is passed over
-  pub finer-next : g .parent < g .child → standing g (step (g .parent) (g .child) (walkOf g)) ≡ standing g (nextWalk g)
+  pub finer-next : g .parent < g .child → movedTo g (step (g .parent) (g .child) (walkOf g)) ≡ movedTo g (nextWalk g)
   finer-next l =
       let e : g .skips ≡ false = never (g .skips) (λ h. let i = walking .skips h .0 in omega arith) in
-      ap (standing g) (next-one g e)
+      ap (movedTo g) (next-one g e)
 
-  pub turned-walking : {h : Gosper} → h ≡ standing g (turned (walkOf g) false) → Walking h
+  pub turned-walking : {h : Gosper} → h ≡ movedTo g (turned (walkOf g) false) → Walking h
   turned-walking e =
       rw e
       (walking-at (g .scratchpad) (g .parent) (g .child) (g .skips) (g .count) (turned (walkOf g) false) (walking .down) (walking .deep) (fine-walk g walking)
       (omega arith) (walking .skips))
 
   module _ (own : g .child ≤ g .parent) where
-    pub own-next : g .skips ≡ false → standing g (turned (walkOf g) false) ≡ standing g (nextWalk g)
-    own-next e = ap (standing g) (still-turned (g .parent) (g .child) (walkOf g) own ∙ next-one g e)
+    pub own-next : g .skips ≡ false → movedTo g (turned (walkOf g) false) ≡ movedTo g (nextWalk g)
+    own-next e = ap (movedTo g) (still-turned (g .parent) (g .child) (walkOf g) own ∙ next-one g e)
 
-    pub own-over : {h : Gosper} → g .skips ≡ true → h ≡ standing g (turned (walkOf g) false) → standing h (turned (walkOf h) false) ≡ standing g (nextWalk g)
+    pub own-over : {h : Gosper} → g .skips ≡ true → h ≡ movedTo g (turned (walkOf g) false) → movedTo h (turned (walkOf h) false) ≡ movedTo g (nextWalk g)
     own-over {h} e i =
         let w = turned (walkOf g) false in
-        let k : turned (walkOf (standing g w)) false ≡ nextWalk g =
+        let k : turned (walkOf (movedTo g w)) false ≡ nextWalk g =
         ap (λ (v : Walk). turned v false) (walk-at (g .scratchpad) (g .parent) (g .child) (g .skips) (g .count) w)
         ∙ still-turned (g .parent) (g .child) w own ∙ ap (step (g .parent) (g .child)) (still-turned (g .parent) (g .child) (walkOf g) own) ∙ next-two g e in
-        ap (λ (y : Gosper). standing y (turned (walkOf y) false)) i
-        ∙ at-again (g .scratchpad) (g .parent) (g .child) (g .skips) (g .count) w (walking .deep) (turned (walkOf (standing g w)) false)
-        ∙ ap (standing g) k
+        ap (λ (y : Gosper). movedTo y (turned (walkOf y) false)) i
+        ∙ at-again (g .scratchpad) (g .parent) (g .child) (g .skips) (g .count) w (walking .deep) (turned (walkOf (movedTo g w)) false)
+        ∙ ap (movedTo g) k
 
   pub some-left : 0 < length (rest g) → 0 < g .count
   some-left l = omega (arith, rest-count g walking)
 
-  pub step-steps : {h : Gosper} → 0 < length (rest g) → h ≡ standing g (nextWalk g) → Steps g (record { edge = g .scratchpad; walk = counted h })
+  pub step-steps : {h : Gosper} → 0 < length (rest g) → h ≡ movedTo g (nextWalk g) → Steps g (record { edge = g .scratchpad; walk = counted h })
   step-steps {h} some e =
       let n : counted h ≡ next g = ap counted e in
       record {

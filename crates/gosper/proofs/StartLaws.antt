@@ -26,7 +26,7 @@ use Rattle.scope.proofs.WalkStarts.{tabulate-same, tabulate-set, tabulate-lt, e
 use Rattle.scope.proofs.WalkStarts as WalkStarts
 use Rattle.scope.proofs.Odometer.{Fine}
 use Rattle.scope.proofs.EdgeDigits.{edge-digit}
-use Rattle.gosper.specs.declared.Written.{Written}
+use Rattle.gosper.specs.declared.levels.Written.{Written}
 use Rattle.gosper.specs.Levels.{withDigit, DigitSet}
 use Rattle.gosper.specs.Walking.{startPosition, startWalk, Starts}
 use Rattle.gosper.proofs.OneDigit.{old-le}

@@ -11,7 +11,7 @@ use Rattle.scope.specs.Lists.{at}
 use Rattle.scope.specs.Cells.{digit, weight}
 use Rattle.scope.specs.Walk.{Moved, walkDigit, still, nextPosition, asksParent, move, spell}
 use Rattle.scope.proofs.Odometer.{Fine}
-use Rattle.gosper.specs.declared.Written.{Written}
+use Rattle.gosper.specs.declared.levels.Written.{Written}
 
 -- x with d as its digit of resolution r
 abbrev pub withDigit : ℕ → ℕ → ℕ → ℕ

@@ -35,6 +35,10 @@ gosperAt x c t b n w =
       skips = b;
     }
 
+-- The same at another walk.
+abbrev pub movedTo : Gosper → Walk → Gosper
+movedTo g w = gosperAt (g .scratchpad) (g .parent) (g .child) (g .skips) (g .count) w
+
 -- The scratch number is the edge at the walk. A step is passed over only at the cell's own resolution, where an edge is left.
 pub record Walking (g : Gosper) : Type 0 where
   pub down : g .parent ≤ g .child

@@ -1,9 +1,9 @@
--- `gosper::need_to_move_to_next` meets its contract.
+-- `gosper::levels::need_to_move_to_next` meets its contract.
 -- Assumes nothing.
 use borrow.Author.Needs.{needs}
 use Rattle.gosper.proofs.Remainders.{packed-same}
-use Rattle.gosper.proofs.need_to_move_to_next.Statement.{statement}
-use Rattle.gosper.proofs.need_to_move_to_next.Tie as tie
+use Rattle.gosper.proofs.levels.need_to_move_to_next.Statement.{statement}
+use Rattle.gosper.proofs.levels.need_to_move_to_next.Tie as tie
 
 mul-result : tie.Need-mul-result
 mul-result c = search needs

@@ -1,4 +1,4 @@
--- `gosper::move_level` meets its contract.
+-- `gosper::levels::move_level` meets its contract.
 -- Assumes nothing.
 use borrow.Author.Needs.{needs}
 use mathlib.Core.Path.{_∙_, ap, subst}
@@ -8,8 +8,8 @@ use lib.ListN.{set}
 use Rattle.scope.specs.Walk.{walkDigit}
 use Rattle.scope.proofs.Walks.{walkDigit-lt}
 use Rattle.gosper.specs.Levels.{DigitSet}
-use Rattle.gosper.proofs.move_level.Statement.{statement}
-use Rattle.gosper.proofs.move_level.Tie as tie
+use Rattle.gosper.proofs.levels.move_level.Statement.{statement}
+use Rattle.gosper.proofs.levels.move_level.Tie as tie
 
 element-copy-out-next-position : tie.Need-element-copy-out-next-position
 element-copy-out-next-position c = search needs

@@ -1,11 +1,11 @@
--- `gosper::edge_count` meets its contract.
+-- `gosper::start::edge_count` meets its contract.
 -- Assumes nothing.
 use mathlib.Core.Path.{_≡_, _∙_, ap}
 use Prim.Native.Nat.{ℕ, _-_, _*_, _^_, _≤_}
 use native.Mathlib.Omega.{arith}
 use Rattle.gosper.proofs.StartLaws.{count-le, count-more}
-use Rattle.gosper.proofs.edge_count.Statement.{statement}
-use Rattle.gosper.proofs.edge_count.Tie as tie
+use Rattle.gosper.proofs.start.edge_count.Statement.{statement}
+use Rattle.gosper.proofs.start.edge_count.Tie as tie
 
 abbrev Inv-loop : tie.InvT-loop
 Inv-loop sides delta n₀ i₀ n i = (i ≤ delta) × (n ≡ sides * 3 ^ i)

@@ -1,4 +1,4 @@
--- `gosper::top_level` meets its contract: the invariant says of each level passed that it moves its parent level.
+-- `gosper::levels::top_level` meets its contract: the invariant says of each level passed that it moves its parent level.
 -- Assumes nothing.
 use mathlib.Core.Path.{_≡_, _∙_, sym}
 use mathlib.Core.Bool.{true}
@@ -8,8 +8,8 @@ use borrow.Author.Tests.{eqb-true, eqb-false, not-true, not-false}
 use Rattle.scope.specs.Walk.{asksParent}
 use Rattle.scope.proofs.Walks.{asks-yes, asks-no, asks-first}
 use Rattle.gosper.proofs.LevelLaws.{down-one}
-use Rattle.gosper.proofs.top_level.Statement.{statement}
-use Rattle.gosper.proofs.top_level.Tie as tie
+use Rattle.gosper.proofs.levels.top_level.Statement.{statement}
+use Rattle.gosper.proofs.levels.top_level.Tie as tie
 
 abbrev Inv-loop : tie.InvT-loop
 Inv-loop positions parent last r₀ r = (parent < r) × (r ≤ last) × ((k : ℕ) → r < k → k ≤ last → asksParent parent k positions ≡ true)

@@ -1,4 +1,4 @@
--- `gosper::settle` meets its contract.
+-- `gosper::levels::settle` meets its contract.
 -- Assumes nothing.
 use borrow.Author.Needs.{needs}
 use mathlib.Core.Path.{_∙_, sym, subst}
@@ -6,8 +6,8 @@ use Prim.Native.Nat.{_-_}
 use Rattle.scope.specs.Walk.{Moved}
 use Rattle.gosper.specs.Levels.{Leaves}
 use Rattle.gosper.proofs.LevelLaws.{over-asked, over-alone, over-none, leaves-still}
-use Rattle.gosper.proofs.settle.Statement.{statement}
-use Rattle.gosper.proofs.settle.Tie as tie
+use Rattle.gosper.proofs.levels.settle.Statement.{statement}
+use Rattle.gosper.proofs.levels.settle.Tie as tie
 
 add-if1 : tie.Need-add-if1
 add-if1 c = search needs

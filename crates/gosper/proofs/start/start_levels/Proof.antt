@@ -1,4 +1,4 @@
--- `gosper::start_levels` meets its contract: the invariant is its promise, at the level reached.
+-- `gosper::start::start_levels` meets its contract: the invariant is its promise, at the level reached.
 -- Assumes nothing.
 use mathlib.Core.Path.{_≡_, subst}
 use Prim.Native.Nat.{ℕ, _-_, _<_, _≤_}
@@ -6,8 +6,8 @@ use native.Mathlib.Omega.{arith}
 use Rattle.scope.proofs.Walks.{walkDigit-lt, edgeDirection-lt}
 use Rattle.gosper.specs.Walking.{Starts}
 use Rattle.gosper.proofs.StartLaws.{first-fits, starts-own, starts-deeper, deeper-fits}
-use Rattle.gosper.proofs.start_levels.Statement.{statement}
-use Rattle.gosper.proofs.start_levels.Tie as tie
+use Rattle.gosper.proofs.start.start_levels.Statement.{statement}
+use Rattle.gosper.proofs.start.start_levels.Tie as tie
 
 abbrev Inv-loop : tie.InvT-loop
 Inv-loop positions₀ cell parent child past scratchpad₀ r₀ positions scratchpad r = (parent ≤ r) × (r ≤ child) × Starts positions cell parent r past scratchpad

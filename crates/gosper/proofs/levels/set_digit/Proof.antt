@@ -1,12 +1,12 @@
--- `gosper::set_digit` meets its contract.
+-- `gosper::levels::set_digit` meets its contract.
 -- Assumes nothing.
 use borrow.Author.Needs.{needs}
 use mathlib.Core.Path.{refl}
 use Prim.Native.Nat.{_*_, _-_}
 use native.Mathlib.Omega.{arith}
 use Rattle.gosper.proofs.OneDigit.{old-le, old-exact, new-exact, put-64}
-use Rattle.gosper.proofs.set_digit.Statement.{statement}
-use Rattle.gosper.proofs.set_digit.Tie as tie
+use Rattle.gosper.proofs.levels.set_digit.Statement.{statement}
+use Rattle.gosper.proofs.levels.set_digit.Tie as tie
 
 sub-s : tie.Need-sub-s
 sub-s c = search needs

@@ -1,11 +1,11 @@
--- `gosper::start_position` meets its contract.
+-- `gosper::start::start_position` meets its contract.
 -- Assumes nothing.
 use borrow.Author.Needs.{needs}
 use Prim.Native.Nat.{_+_}
 use native.Mathlib.Omega.{arith}
 use borrow.Author.Tests.{lt-ltb, le-ltb, eq-eqb, ne-eqb}
-use Rattle.gosper.proofs.start_position.Statement.{statement}
-use Rattle.gosper.proofs.start_position.Tie as tie
+use Rattle.gosper.proofs.start.start_position.Statement.{statement}
+use Rattle.gosper.proofs.start.start_position.Tie as tie
 
 add-if1 : tie.Need-add-if1
 add-if1 c = search needs

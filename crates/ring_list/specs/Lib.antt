@@ -1,2 +1,3 @@
 -- What the contracts of this crate cite beside `scope`.
+pub mod Listing
 pub mod Records

@@ -1,2 +1,4 @@
 // The static library for Rust and C.
 mod columns;
+mod numbers;
+mod reading;

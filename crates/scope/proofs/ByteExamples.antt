@@ -16,7 +16,7 @@ use Rattle.scope.proofs.Computing as Computing
 -- ---- the definitions, with all that they compute with
 
 standing : List ℕ → List ℕ → List ℕ → ℕ → ℕ → ℕ → ℕ → Left
-unfolding Computing.read Lists.total tabulateFrom Ieee.toBits Answers.refusalOf Answers.indexOf Answers.kindOf Answers.verdictOf Answers.polygonsOf Answers.ringsOf joined tableIn stateIn stateBytes Bytes.resultOf Bytes.areaBits Bytes.edgeCount Bytes.summaryBytes Bytes.readBytes Bytes.clearedOutput Bytes.storing Bytes.showing Bytes.calling zoneStanding
+unfolding Computing.read Lists.total tabulateFrom Ieee.toBits Answers.refusalOf Answers.indexOf Answers.kindOf Answers.verdictOf Answers.polygonsOf Answers.ringsOf joined tableIn stateIn stateBytes Bytes.resultOf Bytes.areaBits Bytes.edgeCount Bytes.readBytes Bytes.clearedOutput Bytes.storing Bytes.showing Bytes.calling zoneStanding
 standing t s o slots places call value = zoneStanding t s o slots places call value
 
 dissolve : List ℕ → List ℕ → List ℕ → ℕ → ℕ → ℕ → Left

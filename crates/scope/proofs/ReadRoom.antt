@@ -30,7 +30,7 @@ use Rattle.scope.proofs.Over.{over-at}
 
 pub record RoomIn (o : Output) (r : Reading) : Type 0 where
   pub rings : ringsOf (r .answer) ≤ length (o .start)
-  pub edges : edgeCount r ≤ length (o .edges)
+  pub edges : edgeCount (r .answer) (r .out) ≤ length (o .edges)
 
 -- ---- as many edges as all rings are long
 

@@ -119,25 +119,29 @@ areaBits (readout.Outline polygons rings area) = toBits binary64 area
 areaBits (readout.Refused number index) = 0
 
 -- as many edges as all rings are long
-unfoldable pub edgeCount : Reading → ℕ
-edgeCount r = total (at (r .out .size)) (ringsOf (r .answer))
+unfoldable pub edgeCount : ReadOut → Output → ℕ
+edgeCount r o = total (at (o .size)) (ringsOf r)
 
 -- Kind u32 (0 nothing, 1 closed, 2 outline), polygons u32, rings u32, edges u32, bits of the first outer area u64.
-unfoldable pub summaryBytes : Reading → List ℕ
-summaryBytes r =
-    bytes32 (kindOf (r .answer)) ++ bytes32 (polygonsOf (r .answer)) ++ bytes32 (ringsOf (r .answer)) ++ bytes32 (edgeCount r)
-    ++ bytes64 (areaBits (r .answer))
+abbrev pub summaryRecord : ℕ → ℕ → ℕ → ℕ → ℕ → List ℕ
+summaryRecord kind polygons rings edges bits = bytes32 kind ++ bytes32 polygons ++ bytes32 rings ++ bytes32 edges ++ bytes64 bits
 
 -- For each ring start u32, length u32, group u32, bits of the area u64.
+abbrev pub ringRecord : ℕ → ℕ → ℕ → ℕ → List ℕ
+ringRecord start size group bits = bytes32 start ++ bytes32 size ++ bytes32 group ++ bytes64 bits
+
 abbrev pub ringBytes : Output → ℕ → List ℕ
-ringBytes o i = bytes32 (at (o .start) i) ++ bytes32 (at (o .size) i) ++ bytes32 (at (o .group) i) ++ bytes64 (toBits binary64 (getD (o .area) i nan))
+ringBytes o i = ringRecord (at (o .start) i) (at (o .size) i) (at (o .group) i) (toBits binary64 (getD (o .area) i nan))
 
 -- Then the edge rows, u32 each.
 abbrev pub edgeBytes : Output → ℕ → List ℕ
 edgeBytes o i = bytes32 (at (o .edges) i)
 
-unfoldable pub readBytes : Reading → List ℕ
-readBytes r = summaryBytes r ++ joined (ringBytes (r .out)) (ringsOf (r .answer)) ++ joined (edgeBytes (r .out)) (edgeCount r)
+unfoldable pub readBytes : ReadOut → Output → List ℕ
+readBytes r o =
+    summaryRecord (kindOf r) (polygonsOf r) (ringsOf r) (edgeCount r o) (areaBits r)
+    ++ joined (ringBytes o) (ringsOf r)
+    ++ joined (edgeBytes o) (edgeCount r o)
 
 -- ---- the two entry points
 
@@ -176,10 +180,14 @@ unfoldable pub storing : Outcome → List ℕ → List ℕ → Left
 storing o state out = left (o .answer) (ifAccepted (o .answer) (stateBytes (o .left)) state) out
 
 -- Dissolve and read out write, when accepted, the answer; too short an output is refusal 10.
+abbrev pub shownVerdict : ReadOut → Output → List ℕ → Verdict
+shownVerdict r o out = verdictOf r ▷ require (leb (length (readBytes r o)) (length out)) 10 0
+
+abbrev pub shownOut : ReadOut → Output → List ℕ → List ℕ
+shownOut r o out = ifAccepted (shownVerdict r o out) (over (readBytes r o) out) out
+
 unfoldable pub showing : Reading → List ℕ → List ℕ → Left
-showing r state out =
-    let v = verdictOf (r .answer) ▷ require (leb (length (readBytes r)) (length out)) 10 0 in
-    left v state (ifAccepted v (over (readBytes r) out) out)
+showing r state out = left (shownVerdict (r .answer) (r .out) out) state (shownOut (r .answer) (r .out) out)
 
 -- Dissolve has no state: its work memory is its own.
 unfoldable pub zoneDissolving : List ℕ → List ℕ → List ℕ → ℕ → ℕ → ℕ → Left

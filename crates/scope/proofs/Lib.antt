@@ -1,96 +1,116 @@
--- Laws about the definitions of specs/.
+-- Laws about the definitions of specs/, by subject.
+
+-- Tests, scans and lists
 pub mod Tests
 pub mod Scan
+pub mod Members
+pub mod Pigeonhole
+pub mod Below
+pub mod Sums
+pub mod Puts
+pub mod Stores
+pub mod Over
+pub mod Entries
+
+-- Cells, edges and the walk
 pub mod Cells
 pub mod Edges
-pub mod Spell
 pub mod ValidCells
-pub mod Entries
+pub mod Spell
 pub mod Walks
 pub mod WalkStarts
 pub mod Odometer
 pub mod WalkCounts
+pub mod WalkOwners
+pub mod EdgeDigits
+pub mod OwnOutline
+
+-- The edge table, cell lists and refusals
+pub mod Tables
+pub mod RowSearch
+pub mod Verdicts
+pub mod CellLists
+pub mod CellOffers
+pub mod Owning
+pub mod Numbered
+
+-- Following a step: landings, the ring successor, rings
 pub mod Lands
-pub mod Members
-pub mod Pigeonhole
 pub mod Finite
 pub mod Cycle
 pub mod Successor
 pub mod Offer
 pub mod Outlines
 pub mod Proper
-pub mod Chains
-pub mod OrderFree
 pub mod Agree
-pub mod Rings
-pub mod EdgeDigits
-pub mod WalkOwners
-pub mod OwnOutline
-pub mod LevelRuns
-pub mod Sixths
+pub mod OrderFree
+pub mod AfreshFree
+pub mod EvenMode
+
+-- Groups: chains, labels, parent forests
+pub mod Chains
 pub mod Labels
-pub mod Forest
 pub mod LabelsAfresh
 pub mod Groups
-pub mod States
-pub mod OneMore
-pub mod History
-pub mod Adding
-pub mod Sums
+pub mod Forest
 pub mod Halving
 pub mod Climb
 pub mod Unions
-pub mod Verdicts
-pub mod CellLists
-pub mod CellOffers
+pub mod Joining
+pub mod Pairs
+
+-- The pool and the state's rules
+pub mod Linked
+pub mod Returns
+pub mod Placed
+pub mod Cancelling
+pub mod PoolCount
+pub mod Lengths
 pub mod Rules
 pub mod RulesKept
-pub mod Returns
-pub mod Linked
-pub mod Cancelling
-pub mod Seven
-pub mod Odd
-pub mod Mixed
-pub mod Polygons
-pub mod Computing
-pub mod ExampleKinds
-pub mod ExampleTest
-pub mod MoreExamples
-pub mod Examples
-pub mod Stores
+pub mod Sound
+pub mod Opened
+
+-- Area and order
+pub mod Adding
+pub mod AreaOrder
 pub mod Orders
 pub mod Sorting
 pub mod Sorted
-pub mod AreaOrder
 pub mod RingOrder
-pub mod Below
-pub mod Owning
-pub mod Puts
-pub mod Lengths
-pub mod Placed
-pub mod Sound
-pub mod Tables
-pub mod RowSearch
+pub mod Polygons
+pub mod ReadRoom
+
+-- Demand 3: what a run of calls leaves is what the accepted cells give afresh
+pub mod States
+pub mod OneMore
+pub mod History
 pub mod StateOf
-pub mod PoolCount
-pub mod EvenMode
-pub mod AfreshFree
-pub mod Joining
-pub mod Pairs
 pub mod Taking
 pub mod TakingRules
-pub mod Opened
 pub mod TakingCells
 pub mod TakingStates
 pub mod TakingShows
 pub mod Run
 pub mod Untouched
+pub mod ViewsAlike
+pub mod WhateverOrder
 pub mod Dissolving
 pub mod DissolveRuns
-pub mod ViewsAlike
 pub mod ShownAfresh
-pub mod WhateverOrder
-pub mod Over
+
+-- The worked examples
+pub mod Computing
+pub mod ExampleKinds
+pub mod ExampleTest
+pub mod Seven
+pub mod Odd
+pub mod Mixed
+pub mod MoreExamples
+pub mod Examples
 pub mod ByteExamples
-pub mod Numbered
-pub mod ReadRoom
+
+-- Others
+pub mod Rings
+pub mod LevelRuns
+pub mod Sixths

@@ -11,7 +11,6 @@ pub mod Puts
 pub mod Stores
 pub mod Over
 pub mod Entries
-
 -- Cells, edges and the walk
 pub mod Cells
 pub mod Edges
@@ -22,9 +21,10 @@ pub mod WalkStarts
 pub mod Odometer
 pub mod WalkCounts
 pub mod WalkOwners
+pub mod LevelRuns
+pub mod Sixths
 pub mod EdgeDigits
 pub mod OwnOutline
-
 -- The edge table, cell lists and refusals
 pub mod Tables
 pub mod RowSearch
@@ -33,7 +33,6 @@ pub mod CellLists
 pub mod CellOffers
 pub mod Owning
 pub mod Numbered
-
 -- Following a step: landings, the ring successor, rings
 pub mod Lands
 pub mod Finite
@@ -43,10 +42,10 @@ pub mod Offer
 pub mod Outlines
 pub mod Proper
 pub mod Agree
+pub mod Rings
 pub mod OrderFree
 pub mod AfreshFree
 pub mod EvenMode
-
 -- Groups: chains, labels, parent forests
 pub mod Chains
 pub mod Labels
@@ -58,7 +57,6 @@ pub mod Climb
 pub mod Unions
 pub mod Joining
 pub mod Pairs
-
 -- The pool and the state's rules
 pub mod Linked
 pub mod Returns
@@ -70,7 +68,6 @@ pub mod Rules
 pub mod RulesKept
 pub mod Sound
 pub mod Opened
-
 -- Area and order
 pub mod Adding
 pub mod AreaOrder
@@ -80,7 +77,6 @@ pub mod Sorted
 pub mod RingOrder
 pub mod Polygons
 pub mod ReadRoom
-
 -- Demand 3: what a run of calls leaves is what the accepted cells give afresh
 pub mod States
 pub mod OneMore
@@ -98,7 +94,6 @@ pub mod WhateverOrder
 pub mod Dissolving
 pub mod DissolveRuns
 pub mod ShownAfresh
-
 -- The worked examples
 pub mod Computing
 pub mod ExampleKinds
@@ -109,8 +104,3 @@ pub mod Mixed
 pub mod MoreExamples
 pub mod Examples
 pub mod ByteExamples
-
--- Others
-pub mod Rings
-pub mod LevelRuns
-pub mod Sixths

@@ -1,5 +1,5 @@
 -- The tests of the calls, one after the other: what each answer of the code says of the call's verdict.
---     then-stops, then-goes-on     two tests in a row, by the first one's answer
+--     then-stops, then-goes-on     two tests in a row, by the first one's answer; `then-assoc`: three
 --     state-..                     offer and read out: 10, 1, 9
 --     cell-asks, admit-..          an offer before its outline
 --     dissolve-..                  dissolve before its work
@@ -23,7 +23,7 @@ use Rattle.scope.proofs.Verdicts.{accepted, first-accepts, second-accepts, requ
 use Rattle.scope.proofs.Tables.{table-good}
 use Rattle.scope.proofs.Sound.{sound-state}
 use Rattle.edge_table.specs.Checks.{checked}
-use Rattle.solvent.specs.Admits.{admits, CellAsks}
+use Rattle.solvent.specs.Admits.{admits, readable, CellAsks}
 use Rattle.solvent.proofs.Opening.{agrees, checked-is}
 
 pub then-stops : {v : Verdict} (first second : Verdict) → v ≡ first → isAccepted v ≡ false → v ≡ (first ▷ second)
@@ -35,6 +35,10 @@ then-stops first second q e = go first q e
 
 pub then-goes-on : {v : Verdict} (first second : Verdict) → v ≡ first → isAccepted v ≡ true → second ≡ (first ▷ second)
 then-goes-on {v} first second q e = sym (ap (λ (w : Verdict). w ▷ second) (sym q ∙ accepted v e))
+
+pub then-assoc : (a b c : Verdict) → ((a ▷ b) ▷ c) ≡ (a ▷ b ▷ c)
+then-assoc Accepted b c = refl
+then-assoc (Refused number index) b c = refl
 
 -- ---- 10, 1, 9
 
@@ -101,3 +105,14 @@ some-row t m mode {v} q e =
     let fits = and-left (lengthsFit t m) _ (require-holds _ 10 0 (first-accepts tests _ all)) in
     let T = table-good t (agrees t m fits) (second-accepts tests _ all) in
     omega (arith, T .two)
+
+-- ---- read out before its outputs' lengths
+
+module _ (t : Table) (m : Memory) (o : Output) where
+  pub read-outputs : outputsAgree o ≡ false → Refused 10 0 ≡ readable t m o
+  unfolding readable
+  read-outputs e = rw e
+
+  pub read-state : outputsAgree o ≡ true → stateVerdict t m ≡ readable t m o
+  unfolding readable
+  read-state e = sym (rw e)

@@ -2,3 +2,5 @@
 pub mod Lengths
 pub mod Outlines
 pub mod Admits
+pub mod Taking
+pub mod Reading

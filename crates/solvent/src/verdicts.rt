@@ -6,6 +6,7 @@ use arcs::kept_mode;
 use edge_table::check_table;
 use index::resolution;
 use rules::rules_kept;
+use scope::ReadOut;
 use scope::Verdict;
 use slices::get32;
 use validate::validate;
@@ -19,7 +20,7 @@ ghost use Rattle.scope.specs.Table.{table};
 ghost use Rattle.scope.specs.CellLists.{cellVerdict};
 ghost use Rattle.scope.specs.Memory.{memory, output};
 ghost use Rattle.scope.specs.Calls.{openVerdict, stateVerdict, dissolveVerdict};
-ghost use Rattle.solvent.specs.Admits.{admits, CellAsks};
+ghost use Rattle.solvent.specs.Admits.{admits, readable, refusalIn, CellAsks};
 
 pub fn is_accepted(verdict: Verdict) -> bool
     ensures { λ r. ⌜ r ≡ isAccepted verdict ⌝ }
@@ -27,6 +28,16 @@ pub fn is_accepted(verdict: Verdict) -> bool
     match verdict {
         Verdict::Accepted => true,
         Verdict::Refused(_, _) => false,
+    }
+}
+
+// A refusal as read out and dissolve answer it.
+pub fn refusal(verdict: Verdict) -> ReadOut
+    ensures { λ r. ⌜ r ≡ refusalIn verdict ⌝ }
+{
+    match verdict {
+        Verdict::Accepted => ReadOut::Nothing,
+        Verdict::Refused(number, index) => ReadOut::Refused(number, index),
     }
 }
 
@@ -190,6 +201,51 @@ pub fn admit_verdict(
         return state;
     }
     cell_verdict(edges, head, cells, cell)
+}
+
+// Read out, before its outputs' lengths: 10, 1, 9.
+pub fn read_verdict(
+    edges: &[u64],
+    reverse: &[u32],
+    area: &[f64],
+    head: &[u32],
+    cells: &[u64],
+    parent: &[u32],
+    rank: &[u32],
+    cell_mark: &[u32],
+    slot_row: &[u32],
+    slot_cell: &[u32],
+    prev: &[u32],
+    next: &[u32],
+    row_slot: &[u32],
+    row_mark: &[u32],
+    start: &[u32],
+    size: &[u32],
+    group: &[u32],
+    ring_area: &[f64],
+    ring_edges: &[u32],
+) -> Verdict
+    ensures { λ r. ⌜ r ≡ readable (table (now (edges .entry)) (now (reverse .entry)) (now (area .entry))) (memory (now (head .entry)) (now (cells .entry)) (now (parent .entry)) (now (rank .entry)) (now («cell_mark» .entry)) (now («slot_row» .entry)) (now («slot_cell» .entry)) (now (prev .entry)) (now (next .entry)) (now («row_slot» .entry)) (now («row_mark» .entry))) (output (now (start .entry)) (now (size .entry)) (now (group .entry)) (now («ring_area» .entry)) (now («ring_edges» .entry))) ⌝ }
+{
+    if !outputs_agree(start, size, group, ring_area, ring_edges) {
+        return Verdict::Refused(10, 0);
+    }
+    state_verdict(
+        edges,
+        reverse,
+        area,
+        head,
+        cells,
+        parent,
+        rank,
+        cell_mark,
+        slot_row,
+        slot_cell,
+        prev,
+        next,
+        row_slot,
+        row_mark,
+    )
 }
 
 // Dissolve, before its work: 10, 1, and over the whole list 2, 3, 4, 3, 8.

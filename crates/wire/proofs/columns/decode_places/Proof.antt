@@ -1,4 +1,4 @@
--- `host::columns::decode_places` meets its contract: five columns in a row. Assumes nothing.
+-- `wire::columns::decode_places` meets its contract: five columns in a row. Assumes nothing.
 use borrow.Author.Needs.{needs}
 use Rattle.wire.proofs.columns.decode_places.Statement.{statement}
 use Rattle.wire.proofs.columns.decode_places.Tie as tie

@@ -1,4 +1,4 @@
--- `host::columns::decode_slots` meets its contract: four columns in a row. Assumes nothing.
+-- `wire::columns::decode_slots` meets its contract: four columns in a row. Assumes nothing.
 use borrow.Author.Needs.{needs}
 use Rattle.wire.proofs.columns.decode_slots.Statement.{statement}
 use Rattle.wire.proofs.columns.decode_slots.Tie as tie

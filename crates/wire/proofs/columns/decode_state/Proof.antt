@@ -1,4 +1,4 @@
--- `host::columns::decode_state` meets its contract: the columns of places, slots and rows. Assumes nothing.
+-- `wire::columns::decode_state` meets its contract: the columns of places, slots and rows. Assumes nothing.
 use borrow.Author.Needs.{needs}
 use Rattle.wire.proofs.Decoding.{state-in}
 use Rattle.wire.proofs.columns.decode_state.Statement.{statement}

@@ -1,4 +1,4 @@
--- `host::columns::decode_table` meets its contract: three columns, each as long as there are rows. Assumes nothing.
+-- `wire::columns::decode_table` meets its contract: three columns, each as long as there are rows. Assumes nothing.
 use borrow.Author.Needs.{needs}
 use Rattle.wire.proofs.Decoding.{table-in}
 use Rattle.wire.proofs.columns.decode_table.Statement.{statement}

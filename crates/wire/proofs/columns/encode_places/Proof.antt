@@ -1,4 +1,4 @@
--- `host::columns::encode_places` meets its contract: five columns in a row. Assumes nothing.
+-- `wire::columns::encode_places` meets its contract: five columns in a row. Assumes nothing.
 use borrow.Author.Needs.{needs}
 use Rattle.wire.proofs.Encoding.{places-written}
 use Rattle.wire.proofs.columns.encode_places.Statement.{statement}

@@ -1,4 +1,4 @@
--- `host::columns::encode_rows` meets its contract: two columns in a row. Assumes nothing.
+-- `wire::columns::encode_rows` meets its contract: two columns in a row. Assumes nothing.
 use borrow.Author.Needs.{needs}
 use Rattle.wire.proofs.Encoding.{rows-written}
 use Rattle.wire.proofs.columns.encode_rows.Statement.{statement}

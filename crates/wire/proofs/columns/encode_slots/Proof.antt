@@ -1,4 +1,4 @@
--- `host::columns::encode_slots` meets its contract: four columns in a row. Assumes nothing.
+-- `wire::columns::encode_slots` meets its contract: four columns in a row. Assumes nothing.
 use borrow.Author.Needs.{needs}
 use Rattle.wire.proofs.Encoding.{slots-written}
 use Rattle.wire.proofs.columns.encode_slots.Statement.{statement}

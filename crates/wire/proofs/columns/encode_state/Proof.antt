@@ -1,4 +1,4 @@
--- `host::columns::encode_state` meets its contract: the columns of places, slots and rows. Assumes nothing.
+-- `wire::columns::encode_state` meets its contract: the columns of places, slots and rows. Assumes nothing.
 use borrow.Author.Needs.{needs}
 use Rattle.wire.proofs.Encoding.{state-written}
 use Rattle.wire.proofs.columns.encode_state.Statement.{statement}

@@ -1,4 +1,4 @@
--- `host::numbers::index_in_32` meets its contract. Assumes nothing.
+-- `wire::numbers::index_in_32` meets its contract. Assumes nothing.
 use mathlib.Core.Path.{refl}
 use native.Mathlib.Omega.{arith}
 use borrow.Author.Tests.{lt-ltb, le-ltb}

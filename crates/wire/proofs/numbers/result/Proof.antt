@@ -1,4 +1,4 @@
--- `host::numbers::result` meets its contract: by cases. Assumes nothing.
+-- `wire::numbers::result` meets its contract: by cases. Assumes nothing.
 use mathlib.Core.Path.{_≡_, ap}
 use Prim.Native.Nat.{ℕ, _+_, _*_, _≤_}
 use native.Mathlib.Omega.{arith}

@@ -1,4 +1,4 @@
--- `host::numbers::summarise` meets its contract: by cases. Assumes nothing.
+-- `wire::numbers::summarise` meets its contract: by cases. Assumes nothing.
 use mathlib.Core.Path.{refl}
 use borrow.Author.Needs.{needs}
 use Rattle.scope.specs.Answers.{kindOf, polygonsOf, ringsOf}

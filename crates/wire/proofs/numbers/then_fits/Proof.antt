@@ -1,4 +1,4 @@
--- `host::numbers::then_fits` meets its contract: by cases. Assumes nothing.
+-- `wire::numbers::then_fits` meets its contract: by cases. Assumes nothing.
 use borrow.Author.Needs.{needs}
 use Rattle.wire.proofs.numbers.then_fits.Statement.{statement}
 use Rattle.wire.proofs.numbers.then_fits.Tie as tie

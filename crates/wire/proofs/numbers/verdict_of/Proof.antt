@@ -1,4 +1,4 @@
--- `host::numbers::verdict_of` meets its contract: by cases. Assumes nothing.
+-- `wire::numbers::verdict_of` meets its contract: by cases. Assumes nothing.
 use borrow.Author.Needs.{needs}
 use Rattle.scope.specs.Answers.{verdictOf}
 use Rattle.wire.proofs.numbers.verdict_of.Statement.{statement}

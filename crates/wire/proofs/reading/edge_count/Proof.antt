@@ -1,4 +1,4 @@
--- `host::reading::edge_count` meets its contract: the rings before place i are counted. Assumes nothing.
+-- `wire::reading::edge_count` meets its contract: the rings before place i are counted. Assumes nothing.
 use mathlib.Core.Path.{_≡_, refl, _∙_, ap, ap₂}
 use Prim.Native.Nat.{ℕ, _+_, _-_, _≤_}
 use native.Mathlib.Numerals.{add-one}

@@ -1,4 +1,4 @@
--- `host::reading::show` meets its contract: refused or too short, nothing is written. Assumes nothing.
+-- `wire::reading::show` meets its contract: refused or too short, nothing is written. Assumes nothing.
 use mathlib.Core.Path.{_≡_, sym, _∙_, ap, subst}
 use mathlib.Core.Logic.{⊎-elim}
 use Prim.Native.Nat.{ℕ, _≤_}

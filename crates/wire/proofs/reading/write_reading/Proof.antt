@@ -1,4 +1,4 @@
--- `host::reading::write_reading` meets its contract: the summary, the rings, the edges. Assumes nothing.
+-- `wire::reading::write_reading` meets its contract: the summary, the rings, the edges. Assumes nothing.
 use mathlib.Core.Path.{refl, sym}
 use native.Mathlib.Omega.{arith}
 use lib.Seq.{length-take-le}

@@ -1,4 +1,4 @@
--- `host::reading::write_rings` meets its contract: the rings before place i are written. Assumes nothing.
+-- `wire::reading::write_rings` meets its contract: the rings before place i are written. Assumes nothing.
 use mathlib.Core.Path.{_≡_, refl, _∙_, ap}
 use mathlib.Core.List.{[]}
 use Prim.Native.Nat.{ℕ, _-_}

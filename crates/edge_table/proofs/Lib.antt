@@ -1,4 +1,5 @@
--- Laws that the proofs of this crate cite.
+-- Laws that the proofs of this crate cite, and how many turns the search takes.
 pub mod Floats
 pub mod Search
+pub mod Turns
 pub mod Outcomes

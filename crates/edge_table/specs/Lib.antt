@@ -1,2 +1,3 @@
--- What the contracts of this crate cite beside `scope`.
+-- What the contracts and the theorems of this crate cite beside `scope`.
 pub mod Checks
+pub mod Turns

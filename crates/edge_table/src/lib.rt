@@ -106,13 +106,15 @@ pub fn find_row(edges: &[u64], edge: u64) -> Found
     ensures { λ r. ⌜ r ≡ findRow (now (edges .entry)) edge ⌝ }
 {
     let mut low: usize = 0;
-    let mut high = edges.len();
-    while low < high {
-        let middle = low + ((high - low) >> 1);
+    let mut left = edges.len();
+    while 0 < left {
+        let half = left >> 1;
+        let middle = low + half;
         if edges[middle] < edge {
             low = middle + 1;
+            left -= half + 1;
         } else {
-            high = middle;
+            left = half;
         }
     }
     if edges.len() <= low {

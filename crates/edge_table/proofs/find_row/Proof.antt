@@ -1,25 +1,23 @@
--- `edge_table::find_row` meets its contract. The ends close on the edge, or on the place where it would stand.
--- The measure is how often what lies between them can still be halved: at most 17 times for 65,536 rows.
+-- `edge_table::find_row` meets its contract. The rows left close on the edge, or on the place where it would stand. The measure is how often
+-- they can still be halved: each turn of the loop is a `Turn`, of which at most 17 can be made among 65,536 rows (Turns).
 -- Assumes nothing.
 use native.Mathlib.Omega.{arith}
 use borrow.Author.Needs.{needs}
-use Prim.Native.Nat.{_-_}
 use Rattle.scope.proofs.Tables.{ascending}
-use Rattle.edge_table.proofs.Search.{Halving, halving-start, halving-up, halving-down, met-at, met-past, met-absent, turns, turns-less}
+use Rattle.edge_table.specs.Turns.{halvings}
+use Rattle.edge_table.proofs.Search.{Halving, halving-start, halving-up, halving-down, met-at, met-past, met-absent}
+use Rattle.edge_table.proofs.Turns.{turn-less}
 use Rattle.edge_table.proofs.find_row.Statement.{statement}
 use Rattle.edge_table.proofs.find_row.Tie as tie
 
 abbrev Inv-loop : tie.InvT-loop
-Inv-loop edges edge low₀ high₀ low high = Halving edges edge low high
+Inv-loop edges edge low₀ left₀ low left = Halving edges edge low left
 
 abbrev μ-loop : tie.MeasureT-loop
-μ-loop edges edge low₀ high₀ low high = turns (high - low)
+μ-loop edges edge low₀ left₀ low left = halvings left
 
 loop-holds : tie.Need-loop-holds Inv-loop μ-loop
 loop-holds c = halving-start
-
-sub-middle : tie.Need-sub-middle Inv-loop μ-loop
-sub-middle c = omega arith
 
 add-middle : tie.Need-add-middle Inv-loop μ-loop
 add-middle c = omega arith
@@ -33,17 +31,23 @@ shared-slice-read-if1 c = omega arith
 add-low : tie.Need-add-low Inv-loop μ-loop
 add-low c = omega arith
 
+add-left : tie.Need-add-left Inv-loop μ-loop
+add-left c = omega arith
+
+sub-left : tie.Need-sub-left Inv-loop μ-loop
+sub-left c = omega arith
+
 loop-less : tie.Need-loop-less Inv-loop μ-loop
-loop-less c = turns-less _ _ (omega arith) (omega arith) (omega arith)
+loop-less c = turn-less (omega arith) (record { some = omega arith; half = omega arith })
 
 loop-again : tie.Need-loop-again Inv-loop μ-loop
 loop-again c = halving-up (ascending _ (c .before .before .before .before .pre)) (c .before .before .before .loop .inv) _ (omega arith) (c .if1 .taken)
 
 loop-less-2 : tie.Need-loop-less-2 Inv-loop μ-loop
-loop-less-2 c = turns-less _ _ (omega arith) (omega arith) (omega arith)
+loop-less-2 c = turn-less (omega arith) (record { some = omega arith; half = omega arith })
 
 loop-again-2 : tie.Need-loop-again-2 Inv-loop μ-loop
-loop-again-2 c = halving-down (ascending _ (c .before .before .before .before .pre)) (c .before .before .before .loop .inv) _ (omega arith) (omega arith) (c .if1 .left)
+loop-again-2 c = halving-down (ascending _ (c .before .before .before .before .pre)) (c .before .before .before .loop .inv) _ (omega arith) (c .if1 .left)
 
 returns : tie.Need-returns Inv-loop μ-loop
 returns c = met-past (ascending _ (c .before .before .before .pre)) (c .before .before .loop .inv) (c .before .loop-test .left) (c .if2 .taken)
@@ -67,11 +71,12 @@ find-row-spec =
     Inv-loop
     μ-loop
     loop-holds
-    sub-middle
     add-middle
     mul-if1
     shared-slice-read-if1
     add-low
+    add-left
+    sub-left
     loop-less
     loop-again
     loop-less-2

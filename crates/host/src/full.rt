@@ -1,0 +1,235 @@
+// The four calls at full size, on slices of numbers as they are in the core. include/zone_outliner.h documents them for C.
+use scope::ReadOut;
+use scope::Verdict;
+use solvent::dissolve;
+use solvent::offer;
+use solvent::open;
+use solvent::read_out;
+use wire::numbers::is_accepted;
+use wire::numbers::result;
+use wire::numbers::summarise;
+use wire::numbers::verdict_of;
+ghost use mathlib.Core.Path.{_≡_};
+ghost use Prim.Native.Nat.{_≤_};
+ghost use lib.ListN.{length};
+ghost use Rattle.scope.specs.Answers.{refusalOf, verdictOf, ifAccepted};
+ghost use Rattle.scope.specs.Table.{table};
+ghost use Rattle.scope.specs.Memory.{memory, output};
+ghost use Rattle.scope.specs.Calls.{opening, offering};
+ghost use Rattle.scope.specs.Bytes.{resultOf};
+ghost use Rattle.host.specs.Full.{called, summaryOf, readingTold, dissolvingTold};
+
+#[no_mangle]
+pub extern "C" fn zo_open(
+    edges: &[u64],
+    reverse: &[u32],
+    area: &[f64],
+    head: &mut [u32],
+    cells: &mut [u64],
+    parent: &mut [u32],
+    rank: &mut [u32],
+    cell_mark: &mut [u32],
+    slot_row: &mut [u32],
+    slot_cell: &mut [u32],
+    prev: &mut [u32],
+    next: &mut [u32],
+    row_slot: &mut [u32],
+    row_mark: &mut [u32],
+    mode: usize,
+) -> u64
+    ensures { λ r. ⌜ record { result = r; left = memory (now (head .exit)) (now (cells .exit)) (now (parent .exit)) (now (rank .exit)) (now («cell_mark» .exit)) (now («slot_row» .exit)) (now («slot_cell» .exit)) (now (prev .exit)) (now (next .exit)) (now («row_slot» .exit)) (now («row_mark» .exit)) }
+        ≡ called (opening (table (now (edges .entry)) (now (reverse .entry)) (now (area .entry))) (memory (now (head .entry)) (now (cells .entry)) (now (parent .entry)) (now (rank .entry)) (now («cell_mark» .entry)) (now («slot_row» .entry)) (now («slot_cell» .entry)) (now (prev .entry)) (now (next .entry)) (now («row_slot» .entry)) (now («row_mark» .entry))) mode) ⌝ }
+{
+    result(open(
+        edges,
+        reverse,
+        area,
+        head,
+        cells,
+        parent,
+        rank,
+        cell_mark,
+        slot_row,
+        slot_cell,
+        prev,
+        next,
+        row_slot,
+        row_mark,
+        mode,
+    ))
+}
+
+#[no_mangle]
+pub extern "C" fn zo_offer(
+    edges: &[u64],
+    reverse: &[u32],
+    area: &[f64],
+    head: &mut [u32],
+    cells: &mut [u64],
+    parent: &mut [u32],
+    rank: &mut [u32],
+    cell_mark: &mut [u32],
+    slot_row: &mut [u32],
+    slot_cell: &mut [u32],
+    prev: &mut [u32],
+    next: &mut [u32],
+    row_slot: &mut [u32],
+    row_mark: &mut [u32],
+    cell: u64,
+) -> u64
+    ensures { λ r. ⌜ record { result = r; left = memory (now (head .exit)) (now (cells .exit)) (now (parent .exit)) (now (rank .exit)) (now («cell_mark» .exit)) (now («slot_row» .exit)) (now («slot_cell» .exit)) (now (prev .exit)) (now (next .exit)) (now («row_slot» .exit)) (now («row_mark» .exit)) }
+        ≡ called (offering (table (now (edges .entry)) (now (reverse .entry)) (now (area .entry))) (memory (now (head .entry)) (now (cells .entry)) (now (parent .entry)) (now (rank .entry)) (now («cell_mark» .entry)) (now («slot_row» .entry)) (now («slot_cell» .entry)) (now (prev .entry)) (now (next .entry)) (now («row_slot» .entry)) (now («row_mark» .entry))) cell) ⌝ }
+{
+    result(offer(
+        edges,
+        reverse,
+        area,
+        head,
+        cells,
+        parent,
+        rank,
+        cell_mark,
+        slot_row,
+        slot_cell,
+        prev,
+        next,
+        row_slot,
+        row_mark,
+        cell,
+    ))
+}
+
+// The four numbers of an answer.
+fn store_summary(summary: &mut [u64], answer: ReadOut)
+    requires { ⌜ length (now summary) ≡ 4 ⌝ }
+    ensures { λ _. ⌜ now (summary .exit) ≡ summaryOf answer ⌝ }
+{
+    let s = summarise(answer);
+    summary[0] = s.kind;
+    summary[1] = s.polygons;
+    summary[2] = s.rings;
+    summary[3] = s.area;
+}
+
+// The result, with the summary of an answer that is no refusal.
+fn tell(summary: &mut [u64], answer: ReadOut) -> u64
+    requires { ⌜ (length (now summary) ≡ 4) × (refusalOf (verdictOf answer) ≤ 10) ⌝ }
+    ensures { λ r. ⌜ r ≡ resultOf (verdictOf answer) ⌝ }
+    ensures { λ _. ⌜ now (summary .exit) ≡ ifAccepted (verdictOf answer) (summaryOf answer) (now (summary .entry)) ⌝ }
+{
+    let verdict = verdict_of(answer);
+    if is_accepted(verdict) {
+        store_summary(summary, answer);
+    }
+    result(verdict)
+}
+
+#[no_mangle]
+pub extern "C" fn zo_read_out(
+    edges: &[u64],
+    reverse: &[u32],
+    area: &[f64],
+    head: &[u32],
+    cells: &[u64],
+    parent: &[u32],
+    rank: &[u32],
+    cell_mark: &mut [u32],
+    slot_row: &[u32],
+    slot_cell: &[u32],
+    prev: &[u32],
+    next: &[u32],
+    row_slot: &[u32],
+    row_mark: &mut [u32],
+    start: &mut [u32],
+    size: &mut [u32],
+    group: &mut [u32],
+    ring_area: &mut [f64],
+    ring_edges: &mut [u32],
+    summary: &mut [u64],
+) -> u64
+    ensures { λ r. ⌜ record { result = r; left = memory (now (head .entry)) (now (cells .entry)) (now (parent .entry)) (now (rank .entry)) (now («cell_mark» .exit)) (now («slot_row» .entry)) (now («slot_cell» .entry)) (now (prev .entry)) (now (next .entry)) (now («row_slot» .entry)) (now («row_mark» .exit)); out = output (now (start .exit)) (now (size .exit)) (now (group .exit)) (now («ring_area» .exit)) (now («ring_edges» .exit)); summary = now (summary .exit) }
+        ≡ readingTold (table (now (edges .entry)) (now (reverse .entry)) (now (area .entry))) (memory (now (head .entry)) (now (cells .entry)) (now (parent .entry)) (now (rank .entry)) (now («cell_mark» .entry)) (now («slot_row» .entry)) (now («slot_cell» .entry)) (now (prev .entry)) (now (next .entry)) (now («row_slot» .entry)) (now («row_mark» .entry))) (output (now (start .entry)) (now (size .entry)) (now (group .entry)) (now («ring_area» .entry)) (now («ring_edges» .entry))) (now (summary .entry)) ⌝ }
+{
+    if summary.len() != 4 {
+        return result(Verdict::Refused(10, 0));
+    }
+    let answer = read_out(
+        edges,
+        reverse,
+        area,
+        head,
+        cells,
+        parent,
+        rank,
+        cell_mark,
+        slot_row,
+        slot_cell,
+        prev,
+        next,
+        row_slot,
+        row_mark,
+        start,
+        size,
+        group,
+        ring_area,
+        ring_edges,
+    );
+    tell(summary, answer)
+}
+
+#[no_mangle]
+pub extern "C" fn zo_dissolve(
+    edges: &[u64],
+    reverse: &[u32],
+    area: &[f64],
+    head: &mut [u32],
+    cells: &mut [u64],
+    parent: &mut [u32],
+    rank: &mut [u32],
+    cell_mark: &mut [u32],
+    slot_row: &mut [u32],
+    slot_cell: &mut [u32],
+    prev: &mut [u32],
+    next: &mut [u32],
+    row_slot: &mut [u32],
+    row_mark: &mut [u32],
+    list: &[u64],
+    start: &mut [u32],
+    size: &mut [u32],
+    group: &mut [u32],
+    ring_area: &mut [f64],
+    ring_edges: &mut [u32],
+    summary: &mut [u64],
+    mode: usize,
+) -> u64
+    ensures { λ r. ⌜ record { result = r; left = memory (now (head .exit)) (now (cells .exit)) (now (parent .exit)) (now (rank .exit)) (now («cell_mark» .exit)) (now («slot_row» .exit)) (now («slot_cell» .exit)) (now (prev .exit)) (now (next .exit)) (now («row_slot» .exit)) (now («row_mark» .exit)); out = output (now (start .exit)) (now (size .exit)) (now (group .exit)) (now («ring_area» .exit)) (now («ring_edges» .exit)); summary = now (summary .exit) }
+        ≡ dissolvingTold (table (now (edges .entry)) (now (reverse .entry)) (now (area .entry))) (memory (now (head .entry)) (now (cells .entry)) (now (parent .entry)) (now (rank .entry)) (now («cell_mark» .entry)) (now («slot_row» .entry)) (now («slot_cell» .entry)) (now (prev .entry)) (now (next .entry)) (now («row_slot» .entry)) (now («row_mark» .entry))) mode (now (list .entry)) (output (now (start .entry)) (now (size .entry)) (now (group .entry)) (now («ring_area» .entry)) (now («ring_edges» .entry))) (now (summary .entry)) ⌝ }
+{
+    if summary.len() != 4 {
+        return result(Verdict::Refused(10, 0));
+    }
+    let answer = dissolve(
+        edges,
+        reverse,
+        area,
+        head,
+        cells,
+        parent,
+        rank,
+        cell_mark,
+        slot_row,
+        slot_cell,
+        prev,
+        next,
+        row_slot,
+        row_mark,
+        list,
+        start,
+        size,
+        group,
+        ring_area,
+        ring_edges,
+        mode,
+    );
+    tell(summary, answer)
+}

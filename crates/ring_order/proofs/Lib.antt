@@ -5,3 +5,4 @@ pub mod Merging
 pub mod Halves
 pub mod Outers
 pub mod Ordering
+pub mod Determined

@@ -14,3 +14,4 @@ pub mod Writing
 pub mod Outputs
 pub mod Building
 pub mod FromRules
+pub mod Determined

@@ -1,3 +1,4 @@
 pub mod Decoding
 pub mod Encoding
 pub mod Showing
+pub mod Determined

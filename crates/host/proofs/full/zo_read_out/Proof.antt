@@ -1,5 +1,4 @@
 -- `host::full::zo_read_out` meets its contract: refused without room for the summary, or the call with its answer as numbers. Assumes nothing.
-use Prim.Native.Nat.{_≤_}
 use native.Mathlib.Omega.{arith}
 use borrow.Author.Needs.{needs}
 use Rattle.scope.specs.Answers.{refusalOf}

@@ -1,0 +1,5 @@
+-- Laws that the proofs of this crate cite.
+pub mod Numbers
+pub mod Pieces
+pub mod Reading
+pub mod Examples

@@ -1,0 +1,3 @@
+-- What a cell list is, as text.
+pub mod Words
+pub mod Lines

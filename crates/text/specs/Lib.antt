@@ -1,0 +1,2 @@
+-- Text as bytes.
+pub mod Text

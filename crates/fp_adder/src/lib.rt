@@ -54,7 +54,7 @@ impl FloatAdder {
 }
 
 // Worked example T10: given 1 and then 2^−53 the adder answers 1 − 2^−53, where the plain sum would be 1.
-pub fn worked_example() -> f64
+fn worked_example() -> f64
     ensures { λ r. ⌜ r ≡ ofBits binary64 0x3FEFFFFFFFFFFFFF ⌝ }
 {
     FloatAdder::new()

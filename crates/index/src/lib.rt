@@ -4,7 +4,7 @@ ghost use mathlib.Core.Path.{_≡_};
 ghost use Rattle.scope.specs.Lists.{all, member};
 ghost use Rattle.scope.specs.Cells.{edgeNumber, resolutionOf, baseCell, digitFits, validCell, pentagonBaseCells, isPentagon, ownerOf, validEdge, under};
 
-pub fn edge_number(x: u64) -> u64
+fn edge_number(x: u64) -> u64
     ensures { λ r. ⌜ r ≡ edgeNumber x ⌝ }
 {
     (x >> 56) % 8
@@ -16,7 +16,7 @@ pub fn resolution(x: u64) -> usize
     ((x >> 52) % 16) as usize
 }
 
-pub fn base_cell(x: u64) -> u64
+fn base_cell(x: u64) -> u64
     ensures { λ r. ⌜ r ≡ baseCell x ⌝ }
 {
     (x >> 45) % 128
@@ -41,7 +41,7 @@ pub fn is_cell(x: u64) -> bool
     (x >> 56 == 8) & (base_cell(x) <= 121) & digits_fit(x)
 }
 
-pub const PENTAGON_BASE_CELLS: [u64; 12] = [4, 14, 24, 38, 49, 58, 63, 72, 83, 97, 107, 117];
+const PENTAGON_BASE_CELLS: [u64; 12] = [4, 14, 24, 38, 49, 58, 63, 72, 83, 97, 107, 117];
 
 fn is_pentagon_base(b: u64) -> bool
     ensures { λ r. ⌜ r ≡ member b pentagonBaseCells ⌝ }

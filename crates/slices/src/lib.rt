@@ -50,9 +50,9 @@ pub fn clear32(s: &mut [u32])
 pub fn clear64(s: &mut [u64])
     ensures { λ _. ⌜ now (s .exit) ≡ zeros (now (s .entry)) ⌝ }
 {
-    let mut i = 0;
-    while i < s.len() {
-        s[i] = 0;
-        i += 1;
+    let mut place = 0;
+    while place < s.len() {
+        s[place] = 0;
+        place += 1;
     }
 }

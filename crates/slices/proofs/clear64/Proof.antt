@@ -8,10 +8,10 @@ use Rattle.slices.proofs.clear64.Statement.{statement}
 use Rattle.slices.proofs.clear64.Tie as tie
 
 abbrev Inv-loop : tie.InvT-loop
-Inv-loop s₀ i₀ s i = Clearing s₀ s i
+Inv-loop s₀ place₀ s place = Clearing s₀ s place
 
 abbrev μ-loop : tie.MeasureT-loop
-μ-loop s₀ i₀ s i = length s₀ - i
+μ-loop s₀ place₀ s place = length s₀ - place
 
 loop-holds : tie.Need-loop-holds Inv-loop μ-loop
 loop-holds c = clearing-start _
@@ -22,8 +22,8 @@ mul-s c = search needs
 slice-write-s : tie.Need-slice-write-s Inv-loop μ-loop
 slice-write-s c = search needs
 
-add-i : tie.Need-add-i Inv-loop μ-loop
-add-i c = search needs
+add-place : tie.Need-add-place Inv-loop μ-loop
+add-place c = search needs
 
 loop-less : tie.Need-loop-less Inv-loop μ-loop
 loop-less c = search needs
@@ -46,7 +46,7 @@ clear64-spec =
     loop-holds
     mul-s
     slice-write-s
-    add-i
+    add-place
     loop-less
     loop-again
     same-length

@@ -9,10 +9,10 @@ ghost use Rattle.scope.proofs.Odometer.{Fine};
 ghost use Rattle.gosper.specs.Levels.{DigitSet, Levels, Top, MovesLevel, Leaves, overFinest};
 
 // H3 digit at each of the 18 walk positions: the six digits beside the centre, counter-clockwise, three times each.
-pub const WALK_DIGIT: [u8; 18] = [1, 1, 1, 5, 5, 5, 4, 4, 4, 6, 6, 6, 2, 2, 2, 3, 3, 3];
+const WALK_DIGIT: [u8; 18] = [1, 1, 1, 5, 5, 5, 4, 4, 4, 6, 6, 6, 2, 2, 2, 3, 3, 3];
 
 // H3 edge direction at each edge position, counter-clockwise.
-pub const EDGE_DIR: [u8; 6] = [3, 1, 5, 4, 6, 2];
+const EDGE_DIR: [u8; 6] = [3, 1, 5, 4, 6, 2];
 
 fn wide(x: u8) -> u64
     ensures { λ r. ⌜ r ≡ x ⌝ }
@@ -20,7 +20,7 @@ fn wide(x: u8) -> u64
     x as u64
 }
 
-pub fn walk_digit(position: u8) -> u64
+pub(crate) fn walk_digit(position: u8) -> u64
     requires { ⌜ position < 18 ⌝ }
     ensures { λ d. ⌜ d ≡ walkDigit position ⌝ }
 {
@@ -28,7 +28,7 @@ pub fn walk_digit(position: u8) -> u64
     wide(WALK_DIGIT[i])
 }
 
-pub fn edge_direction(facing: u8) -> u64
+pub(crate) fn edge_direction(facing: u8) -> u64
     requires { ⌜ facing < 6 ⌝ }
     ensures { λ d. ⌜ d ≡ edgeDirection facing ⌝ }
 {
@@ -52,7 +52,7 @@ fn back_six(position: u8, changed: bool) -> u8
     }
 }
 
-pub fn next_position(position: u8, changed: bool) -> u8
+pub(crate) fn next_position(position: u8, changed: bool) -> u8
     requires { ⌜ position < 18 ⌝ }
     ensures { λ p. ⌜ p ≡ nextPosition position changed ⌝ }
 {
@@ -72,7 +72,7 @@ fn back_two(facing: u8, changed: bool) -> u8
     }
 }
 
-pub fn next_edge(facing: u8, changed: bool) -> u8
+pub(crate) fn next_edge(facing: u8, changed: bool) -> u8
     requires { ⌜ facing < 6 ⌝ }
     ensures { λ e. ⌜ e ≡ nextEdgePosition facing changed ⌝ }
 {
@@ -93,12 +93,12 @@ fn need_to_move_to_next(position: u8, resolution: usize) -> bool
 }
 
 // The number with a digit written, and whether the digit was another.
-pub struct Written {
+pub(crate) struct Written {
     pub scratchpad: u64,
     pub changed: bool,
 }
 
-pub fn set_digit(scratchpad: u64, r: usize, d: u64) -> Written
+pub(crate) fn set_digit(scratchpad: u64, r: usize, d: u64) -> Written
     requires { ⌜ (r ≤ 15) × (d < 8) ⌝ }
     ensures { λ w. ⌜ DigitSet scratchpad r d w ⌝ }
 {
@@ -157,7 +157,7 @@ fn move_levels(positions: &mut [u8; 16], scratchpad: u64, parent: usize, last: u
 }
 
 // The levels over the finest one move, where it asks for that.
-pub fn settle(
+pub(crate) fn settle(
     positions: &mut [u8; 16],
     scratchpad: u64,
     parent: usize,

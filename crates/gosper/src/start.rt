@@ -21,7 +21,7 @@ fn start_position(parent: usize, r: usize, past: u8) -> u8
 }
 
 // Every level at its start, and the edge there: the walk goes a level deeper each turn.
-pub fn start_levels(
+pub(crate) fn start_levels(
     positions: &mut [u8; 16],
     cell: u64,
     parent: usize,
@@ -44,7 +44,7 @@ pub fn start_levels(
 }
 
 // Each level deeper has three times the edges.
-pub fn edge_count(sides: u64, delta: usize) -> u64
+pub(crate) fn edge_count(sides: u64, delta: usize) -> u64
     requires { ⌜ (sides ≤ 6) × (delta ≤ 15) ⌝ }
     ensures { λ n. ⌜ n ≡ sides * 3 ^ delta ⌝ }
 {

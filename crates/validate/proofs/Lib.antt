@@ -8,3 +8,4 @@ pub mod Lookups
 pub mod Raising
 pub mod Joining
 pub mod Stages
+pub mod Chaining

@@ -2,3 +2,4 @@
 pub mod Sorting
 pub mod Lookup
 pub mod Parts
+pub mod Chains

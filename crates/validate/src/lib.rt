@@ -5,6 +5,7 @@ ghost use lib.ListN.{length};
 ghost use Rattle.scope.specs.Lists.{firstBad, passes};
 ghost use Rattle.scope.specs.CellLists.{validAt, differs, resolutionFits, resolutionFitsAt, notUnder, notOver, roomFor, listVerdict, cellVerdict};
 
+mod chains;
 mod lookup;
 mod parts;
 mod sorting;

@@ -5,6 +5,7 @@ ghost use Prim.Native.Nat.{_+_, _≤_, _<_, min};
 ghost use lib.ListN.{length};
 ghost use Rattle.scope.specs.Lists.{firstBad};
 ghost use Rattle.validate.specs.Parts.{newAgainst, clearAgainst, Against, Found, SecondIn, NestedIn, PartIn, AllValid};
+use crate::chains::all_differ;
 use crate::lookup::is_clear;
 use crate::lookup::is_new;
 use crate::lookup::raise;
@@ -85,7 +86,8 @@ fn part_end(start: usize, n: usize) -> usize
     if n - start <= PART { n } else { start + PART }
 }
 
-pub fn lowest_clashes(cells: &[u64], mixed: bool) -> Clashes
+// The lowest clashes over all parts.
+fn clashes_in_parts(cells: &[u64], mixed: bool) -> Clashes
     requires { ⌜ AllValid (now cells) ⌝ }
     ensures { λ r. ⌜ Found (now (cells .entry)) (length (now (cells .entry))) mixed (r .second) (r .nested) ⌝ }
 {
@@ -104,4 +106,21 @@ pub fn lowest_clashes(cells: &[u64], mixed: bool) -> Clashes
         second: second,
         nested: nested,
     }
+}
+
+// Cells of one resolution mostly differ, which is told without sorting them.
+pub fn lowest_clashes(cells: &[u64], mixed: bool) -> Clashes
+    requires { ⌜ AllValid (now cells) ⌝ }
+    ensures { λ r. ⌜ Found (now (cells .entry)) (length (now (cells .entry))) mixed (r .second) (r .nested) ⌝ }
+{
+    if mixed {
+        return clashes_in_parts(cells, mixed);
+    }
+    if all_differ(cells) {
+        return Clashes {
+            second: cells.len(),
+            nested: cells.len(),
+        };
+    }
+    clashes_in_parts(cells, mixed)
 }

@@ -1,63 +1,35 @@
--- `validate::parts::lowest_clashes` meets its contract. The invariant is `Found`, of the parts up to `done`.
+-- `validate::parts::lowest_clashes` meets its contract.
 -- Assumes nothing.
-use native.Mathlib.Omega.{arith}
-use mathlib.Core.Path.{_≡_, subst}
-use Prim.Native.Nat.{ℕ, _-_, _≤_}
-use lib.ListN.{length}
-use Rattle.validate.specs.Parts.{Found}
-use Rattle.validate.proofs.Joining.{found-start, found-more}
+use borrow.Author.Needs.{needs}
+use Rattle.validate.proofs.Chaining.{apart-found}
 use Rattle.validate.proofs.parts.lowest_clashes.Statement.{statement}
 use Rattle.validate.proofs.parts.lowest_clashes.Tie as tie
 
-abbrev Inv-loop : tie.InvT-loop
-Inv-loop cells mixed n second₀ nested₀ done₀ second nested done = (done ≤ length cells) × Found cells done mixed second nested
+clashes-in-parts-requires : tie.Need-clashes-in-parts-requires
+clashes-in-parts-requires c κs = search needs
 
-abbrev μ-loop : tie.MeasureT-loop
-μ-loop cells mixed n second₀ nested₀ done₀ second nested done = length cells - done
+returns : tie.Need-returns
+returns c = search needs
 
-loop-holds : tie.Need-loop-holds Inv-loop μ-loop
-loop-holds c = (omega arith, found-start (c .before .args .cells .now) (c .before .args .mixed))
+all-differ-requires : tie.Need-all-differ-requires
+all-differ-requires c κs = search needs
 
-part-end-requires : tie.Need-part-end-requires Inv-loop μ-loop
-part-end-requires c κs = c .loop-test .taken
+returns-2 : tie.Need-returns-2
+returns-2 c = apart-found (c .before .all-differ .ensures .shown (c .if2 .taken)) (c .before .before .if1 .left)
 
-against-part-requires : tie.Need-against-part-requires Inv-loop μ-loop
-against-part-requires c κs =
-    let end = c .part-end .ensures in
-    record { valid = c .before .before .before .before .pre; order = omega (arith, end .0); within = end .1; few = end .2 }
+clashes-in-parts-requires-2 : tie.Need-clashes-in-parts-requires-2
+clashes-in-parts-requires-2 c κs = search needs
 
-lower-requires : tie.Need-lower-requires Inv-loop μ-loop
-lower-requires c κs = tt
-
-lower-requires-2 : tie.Need-lower-requires-2 Inv-loop μ-loop
-lower-requires-2 c κs = tt
-
-loop-less : tie.Need-loop-less Inv-loop μ-loop
-loop-less c = omega (arith, c .before .before .before .part-end .ensures)
-
-loop-again : tie.Need-loop-again Inv-loop μ-loop
-loop-again c =
-    let end = c .before .before .before .part-end .ensures in
-    (end .1, found-more (omega (arith, end .0)) (c .before .before .before .before .before .loop .inv .1) (c .before .before .against-part .ensures) (c .before .lower .ensures) (c .lower2 .ensures))
-
-returns : tie.Need-returns Inv-loop μ-loop
-returns c =
-    let start = c .before .before .before .args in
-    let loop = c .before .loop in
-    let e : loop .done ≡ length (start .cells .now) = omega arith in
-    subst (λ (k : ℕ). Found (start .cells .now) k (start .mixed) (loop .second) (loop .nested)) e (loop .inv .1)
+returns-3 : tie.Need-returns-3
+returns-3 c = search needs
 
 pub lowest-clashes-spec : {M : Type 1} → statement M
 lowest-clashes-spec =
     tie.close
     (tie.spec
-    Inv-loop
-    μ-loop
-    loop-holds
-    part-end-requires
-    against-part-requires
-    lower-requires
-    lower-requires-2
-    loop-less
-    loop-again
-    returns)
+    clashes-in-parts-requires
+    returns
+    all-differ-requires
+    returns-2
+    clashes-in-parts-requires-2
+    returns-3)

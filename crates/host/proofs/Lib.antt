@@ -2,3 +2,5 @@ pub mod Numbers
 pub mod Telling
 pub mod Determined
 pub mod Results
+pub mod Enough
+pub mod EnoughSlots

@@ -1,0 +1,137 @@
+-- OUTPUTS THAT ARE ALWAYS LONG ENOUGH: as many records and as many rows in the edge list as the table has rows.
+--     edges-most          no more edges are read out than there are rows, for each is in one ring
+--     outputs-enough      so outputs of that size fit, whatever state passes the rules
+--     read-enough         read out is then refused by 10, 1 or 9 of its first tests alone
+--     dissolve-enough     and dissolve, once its list has passed, by 5, 6 or 7 alone
+-- Assumes nothing.
+use Prim.Native.Nat.{ℕ, _≤_, _<_}
+use mathlib.Core.Path.{_≡_, refl, sym, ap, subst}
+use mathlib.Core.Bool.{Bool, true, _&&_}
+use mathlib.Core.Logic.{_⊎_, inl, inr}
+use mathlib.Core.List.{List, [], _∷_, _++_, List·Memᴰ, List·Memᴰ·head, List·Memᴰ·tail, List·Memᴰ·not-nil, List·Memᴰ·cases-cons, List·Memᴰ·append-cases, Memᴰ·cast}
+use native.Mathlib.Omega.{arith}
+use lib.ListN.{length, length-append}
+use borrow.Author.Tests.{le-leb}
+use Rattle.scope.specs.declared.Verdict.{Verdict}
+use Rattle.scope.specs.declared.Verdict.the-variants.{Accepted, Refused}
+use Rattle.scope.specs.Answers.{require, _▷_}
+use Rattle.scope.specs.Table.{Table, rowCount}
+use Rattle.scope.specs.Memory.{Memory, Output, hasSlot, opened, lengthsFit, modeFits, outputsAgree}
+use Rattle.scope.specs.Afresh.{ring, startsRing}
+use Rattle.scope.specs.Order.{View, view, standsAt, nextRow, ringAt, lowestRows, ordered, edgeRows}
+use Rattle.scope.specs.Calls.{openVerdict, stateVerdict, outputFits, readVerdict, offeringAll, dissolveVerdict}
+use Rattle.scope.proofs.Tests.{and-left, and-both}
+use Rattle.scope.proofs.Verdicts.{first-accepts, second-accepts, require-holds, require-accepts}
+use Rattle.scope.proofs.Members.{Fresh, mem-below, below-fresh}
+use Rattle.scope.proofs.Pigeonhole.{fresh-length}
+use Rattle.scope.proofs.Cycle.{iter, iter-in, Permutes}
+use Rattle.scope.proofs.Rings.{mem-ring, ring-fresh, ring-one, starts-stand}
+use Rattle.scope.proofs.Sorted.{Perm, none, skip, swap, both}
+use Rattle.scope.proofs.RingOrder.{ordered-all}
+use Rattle.scope.proofs.Lengths.{lengths-good}
+use Rattle.scope.proofs.Sound.{Sound, sound-state, sound-linked}
+use Rattle.scope.proofs.Untouched.{rows-permute}
+use Rattle.scope.proofs.Run.{opened-shown, all-shown}
+
+-- ---- each edge is in one ring
+
+fresh-append : (l k : List ℕ) → Fresh l → Fresh k → ((a : ℕ) → List·Memᴰ a l → List·Memᴰ a k → ⊥) → Fresh (l ++ k)
+fresh-append [] k f g d = g
+fresh-append (x ∷ l) k f g d =
+    (λ i. go (List·Memᴰ·append-cases l i), fresh-append l k (f .1) g (λ a i j. d a (List·Memᴰ·tail i) j))
+  where
+    go : List·Memᴰ x l ⊎ List·Memᴰ x k → ⊥
+    go (inl i) = f .0 i
+    go (inr i) = d x (List·Memᴰ·head refl) i
+
+in-ring : (v : View) (l : List ℕ) (a : ℕ) → List·Memᴰ a (edgeRows v l) → (r : ℕ) × List·Memᴰ r l × List·Memᴰ a (ringAt v r)
+unfolding edgeRows
+in-ring v [] a i = absurd (List·Memᴰ·not-nil i)
+in-ring v (r ∷ l) a i = go (λ j. in-ring v l a j) (List·Memᴰ·append-cases (ringAt v r) i)
+  where
+    go : (List·Memᴰ a (edgeRows v l) → (q : ℕ) × List·Memᴰ q l × List·Memᴰ a (ringAt v q)) → List·Memᴰ a (ringAt v r) ⊎ List·Memᴰ a (edgeRows v l)
+        → (q : ℕ) × List·Memᴰ q (r ∷ l) × List·Memᴰ a (ringAt v q)
+    go ih (inl j) = (r, List·Memᴰ·head refl, j)
+    go ih (inr j) = let z = ih j in (z .0, List·Memᴰ·tail (z .1), z .2)
+
+-- the rings in another order have as many edges
+edges-perm : (v : View) {l k : List ℕ} → Perm l k → length (edgeRows v l) ≡ length (edgeRows v k)
+unfolding edgeRows
+edges-perm v none = refl
+edges-perm v (skip {x = x} {l = l} {l′ = k} p) =
+    let a = length-append (ringAt v x) (edgeRows v l) in let b = length-append (ringAt v x) (edgeRows v k) in let e = edges-perm v p in omega arith
+edges-perm v (swap {x = x} {y = y} {l = l}) =
+    let a = length-append (ringAt v x) (ringAt v y ++ edgeRows v l) in let b = length-append (ringAt v y) (edgeRows v l) in
+    let c = length-append (ringAt v y) (ringAt v x ++ edgeRows v l) in let d = length-append (ringAt v x) (edgeRows v l) in
+    omega arith
+edges-perm v (both p q) = let a = edges-perm v p in let b = edges-perm v q in omega arith
+
+-- and no ring is empty
+edges-least : (v : View) (l : List ℕ) → length l ≤ length (edgeRows v l)
+unfolding edgeRows ring
+edges-least v [] = omega arith
+edges-least v (r ∷ l) = let a = edges-least v l in let b = length-append (ringAt v r) (edgeRows v l) in omega arith
+
+module _ (v : View) (R : Permutes (length (v .rowSlot)) (λ r. standsAt (v .rowSlot) r ≡ true) (nextRow (v .rowSlot) (v .slotRow) (v .next))) where
+  abbrev n : ℕ
+  n = length (v .rowSlot)
+
+  stands : (r : ℕ) → List·Memᴰ r (lowestRows v) → standsAt (v .rowSlot) r ≡ true
+  stands r i = starts-stand R r (mem-below _ n r i .1)
+
+  edges-fresh : (l : List ℕ) → Fresh l → ((r : ℕ) → List·Memᴰ r l → List·Memᴰ r (lowestRows v)) → Fresh (edgeRows v l)
+  unfolding edgeRows
+  edges-fresh [] f s = tt
+  edges-fresh (r ∷ l) f s =
+      let here = s r (List·Memᴰ·head refl) in
+      fresh-append (ringAt v r) (edgeRows v l) (ring-fresh R r (stands r here)) (edges-fresh l (f .1) (λ q i. s q (List·Memᴰ·tail i)))
+      (λ a i j. let z = in-ring v l a j in f .0 (Memᴰ·cast (ring-one R r (z .0) a here (s (z .0) (List·Memᴰ·tail (z .1))) i (z .2)) (z .1)))
+
+  pub edges-most : length (edgeRows v (ordered v)) ≤ length (v .rowSlot)
+  edges-most =
+      let low = lowestRows v in
+      let most = fresh-length n (edgeRows v low) (edges-fresh low (below-fresh _ n) (λ r i. i)) (λ a i.
+      let z = in-ring v low a i in
+      let u = stands (z .0) (z .1) in
+      let k = mem-ring R (z .0) a u (z .2) in
+      subst (λ (b : ℕ). b < n) (sym (k .1)) (R .small (iter _ (k .0) (z .0)) (iter-in R (k .0) (z .0) u))) in
+      let same = edges-perm v (ordered-all v) in
+      omega arith
+
+-- ---- the calls
+
+-- a test that holds where the one before it accepts refuses nothing
+extra : (v : Verdict) (b : Bool) → (v ≡ Accepted → b ≡ true) → (v ▷ require b 10 0) ≡ v
+extra Accepted b h = require-accepts b 10 0 (h refl)
+extra (Refused number index) b h = refl
+
+module _ (t : Table) (o : Output) (records : rowCount t ≤ length (o .start)) (rows : rowCount t ≤ length (o .edges)) where
+  pub outputs-enough : {m : Memory} → Sound t m → outputFits (view t m) o ≡ true
+  unfolding outputFits
+  outputs-enough {m} S =
+      let v = view t m in
+      let R : Permutes (length (m .rowSlot)) (λ r. hasSlot m r ≡ true) (nextRow (m .rowSlot) (m .slotRow) (m .next)) =
+      subst (λ (k : ℕ). Permutes k (λ r. hasSlot m r ≡ true) (nextRow (m .rowSlot) (m .slotRow) (m .next))) (sym (S .lengths .row-slot)) (rows-permute (sound-linked S)) in
+      let most = edges-most v R in let least = edges-least v (ordered v) in let all = S .lengths .row-slot in
+      let a : length (ordered v) ≤ length (o .start) = omega arith in
+      let b : length (edgeRows v (ordered v)) ≤ length (o .edges) = omega arith in
+      and-both _ _ (le-leb _ _ a) (le-leb _ _ b)
+
+  pub read-enough : (m : Memory) → readVerdict t m o ≡ (require (outputsAgree o) 10 0 ▷ stateVerdict t m)
+  unfolding readVerdict
+  read-enough m = ap (λ (w : Verdict). require (outputsAgree o) 10 0 ▷ w) (extra (stateVerdict t m) (outputFits (view t m) o) (λ e. outputs-enough (sound-state t m e)))
+
+  module _ (m : Memory) (mode : ℕ) (cs : List ℕ) where
+    opened-first : dissolveVerdict t m mode cs o ≡ Accepted → openVerdict t m mode ≡ Accepted
+    unfolding dissolveVerdict
+    opened-first e = first-accepts _ _ (second-accepts (require (outputsAgree o) 10 0) _ e)
+
+    last-sound : openVerdict t m mode ≡ Accepted → offeringAll t (opened mode m) cs .answer ≡ Accepted → Sound t (offeringAll t (opened mode m) cs .left)
+    unfolding openVerdict
+    last-sound e a =
+        let lengths = lengths-good t m (and-left (lengthsFit t m) (modeFits mode) (require-holds _ 10 0 (first-accepts _ _ e))) in
+        all-shown t (opened mode m) [] cs (opened-shown t m mode (second-accepts (require (lengthsFit t m && modeFits mode) 10 0) _ e) lengths) a .sound
+
+    pub dissolve-enough : dissolveVerdict t m mode cs o ≡ Accepted
+        → (offeringAll t (opened mode m) cs .answer ▷ require (outputFits (view t (offeringAll t (opened mode m) cs .left)) o) 10 0) ≡ offeringAll t (opened mode m) cs .answer
+    dissolve-enough e = extra (offeringAll t (opened mode m) cs .answer) _ (λ a. outputs-enough (last-sound (opened-first e) a))

@@ -1,200 +1,22 @@
-// Worked examples that are run, on the table of a hexagon of resolution 9 and its six neighbours: the empty list, T7 to T9,
-// and a list that names a cell again.
-use libc::STDOUT_FILENO;
-use scope::ReadOut;
-use slices::wide32;
+// The worked examples that are run, each a zone dissolved over the real table of a file: the empty list, T7 to T9, a list that
+// names a cell again, all 122 cells of resolution 0, and one cell whose outline of 13,122 edges fits a table.
+mod memory;
+mod show;
 
-// The table: each row's edge, the row of its reverse, its area term.
-const EDGES: [u64; 60] = [
-    0x1192_8308_2803_ffff,
-    0x1192_8308_2807_ffff,
-    0x1192_8308_280b_ffff,
-    0x1192_8308_280f_ffff,
-    0x1192_8308_281b_ffff,
-    0x1192_8308_283b_ffff,
-    0x1192_8308_2847_ffff,
-    0x1192_8308_2857_ffff,
-    0x1192_8308_2873_ffff,
-    0x1192_8308_2877_ffff,
-    0x1292_8308_2803_ffff,
-    0x1292_8308_2807_ffff,
-    0x1292_8308_280b_ffff,
-    0x1292_8308_280f_ffff,
-    0x1292_8308_2817_ffff,
-    0x1292_8308_2833_ffff,
-    0x1292_8308_283b_ffff,
-    0x1292_8308_2873_ffff,
-    0x1292_8308_2877_ffff,
-    0x1292_8308_28ab_ffff,
-    0x1392_8308_2803_ffff,
-    0x1392_8308_2807_ffff,
-    0x1392_8308_280b_ffff,
-    0x1392_8308_280f_ffff,
-    0x1392_8308_2813_ffff,
-    0x1392_8308_2817_ffff,
-    0x1392_8308_281b_ffff,
-    0x1392_8308_283b_ffff,
-    0x1392_8308_2873_ffff,
-    0x1392_8308_2877_ffff,
-    0x1492_8308_2803_ffff,
-    0x1492_8308_2807_ffff,
-    0x1492_8308_280b_ffff,
-    0x1492_8308_280f_ffff,
-    0x1492_8308_282b_ffff,
-    0x1492_8308_283b_ffff,
-    0x1492_8308_2863_ffff,
-    0x1492_8308_2867_ffff,
-    0x1492_8308_2873_ffff,
-    0x1492_8308_2877_ffff,
-    0x1592_8308_2803_ffff,
-    0x1592_8308_2807_ffff,
-    0x1592_8308_280b_ffff,
-    0x1592_8308_280f_ffff,
-    0x1592_8308_283b_ffff,
-    0x1592_8308_2847_ffff,
-    0x1592_8308_2863_ffff,
-    0x1592_8308_2873_ffff,
-    0x1592_8308_2877_ffff,
-    0x1592_8308_287b_ffff,
-    0x1692_8308_2803_ffff,
-    0x1692_8308_2807_ffff,
-    0x1692_8308_280b_ffff,
-    0x1692_8308_280f_ffff,
-    0x1692_8308_2823_ffff,
-    0x1692_8308_282b_ffff,
-    0x1692_8308_2833_ffff,
-    0x1692_8308_283b_ffff,
-    0x1692_8308_2873_ffff,
-    0x1692_8308_2877_ffff,
-];
+use memory::dissolve_cells;
+use memory::row_floats;
+use memory::row_numbers;
+use memory::row_words;
+use memory::slot_numbers;
+use show::show_answer;
+use show::show_title;
+use table_file::read_table;
+ghost use mathlib.Core.Path.{_≡_};
+ghost use Prim.Native.Nat.{_≤_};
+ghost use lib.ListN.{length};
+ghost use Rattle.worked_examples.specs.BaseCells.{allOfBase};
 
-const REVERSE: [u32; 60] = [
-    51,
-    56,
-    53,
-    57,
-    50,
-    54,
-    58,
-    52,
-    59,
-    55,
-    42,
-    43,
-    45,
-    47,
-    40,
-    44,
-    48,
-    49,
-    46,
-    41,
-    33,
-    35,
-    38,
-    39,
-    30,
-    31,
-    32,
-    34,
-    36,
-    37,
-    24,
-    25,
-    26,
-    20,
-    27,
-    21,
-    28,
-    29,
-    22,
-    23,
-    14,
-    19,
-    10,
-    11,
-    15,
-    12,
-    18,
-    13,
-    16,
-    17,
-    4,
-    0,
-    7,
-    2,
-    5,
-    9,
-    1,
-    3,
-    6,
-    8,
-];
-
-const AREA: [f64; 60] = [
-    0.0000301499649082964136040,
-    0.0000301483549834429668027,
-    0.0000301531987934151441387,
-    0.0000301515889952660016667,
-    0.0000301515744982054977139,
-    0.0000301499788600170280455,
-    0.0000301564327876296549074,
-    0.0000301548082558952601278,
-    0.0000301548231154790079267,
-    0.0000301532131090845453240,
-    0.0000354500662964912945357,
-    0.0000354515599683056281178,
-    0.0000354506594980267471001,
-    0.0000354521535251613867379,
-    0.0000354494727504532173017,
-    0.0000354530533375499334772,
-    0.0000354536472504439907128,
-    0.0000354527467382173276417,
-    0.0000354542408181137037740,
-    0.0000354509660662389355489,
-    0.0000656023949965155167693,
-    0.0000656022786537537847028,
-    0.0000656062223146625236392,
-    0.0000656061064560798810810,
-    0.0000655986836288082164051,
-    0.0000655985674429715893020,
-    0.0000656025106996167644245,
-    0.0000656059899585345195246,
-    0.0000656099340222778844691,
-    0.0000656098180074907383688,
-    -0.0000655986836288082164051,
-    -0.0000655985674429715893020,
-    -0.0000656025106996167644245,
-    -0.0000656023949965155167693,
-    -0.0000656059899585345195246,
-    -0.0000656022786537537847028,
-    -0.0000656099340222778844691,
-    -0.0000656098180074907383688,
-    -0.0000656062223146625236392,
-    -0.0000656061064560798810810,
-    -0.0000354494727504532173017,
-    -0.0000354509660662389355489,
-    -0.0000354500662964912945357,
-    -0.0000354515599683056281178,
-    -0.0000354530533375499334772,
-    -0.0000354506594980267471001,
-    -0.0000354542408181137037740,
-    -0.0000354521535251613867379,
-    -0.0000354536472504439907128,
-    -0.0000354527467382173276417,
-    -0.0000301515744982054977139,
-    -0.0000301499649082964136040,
-    -0.0000301548082558952601278,
-    -0.0000301531987934151441387,
-    -0.0000301499788600170280455,
-    -0.0000301532131090845453240,
-    -0.0000301483549834429668027,
-    -0.0000301515889952660016667,
-    -0.0000301564327876296549074,
-    -0.0000301548231154790079267,
-];
-
-// The six neighbours, around the hexagon in their middle.
+// Six hexagons of resolution 9, around the one in their middle.
 const AROUND: [u64; 6] = [
     0x0892_8308_2803_ffff,
     0x0892_8308_2807_ffff,
@@ -206,85 +28,57 @@ const AROUND: [u64; 6] = [
 
 const CENTRE: u64 = 0x0892_8308_280f_ffff;
 
-fn show_numbers(word: &[u8], a: usize, b: usize) {
-    io::write_all(STDOUT_FILENO, word);
-    io::print_decimal(STDOUT_FILENO, a as u64);
-    io::write_all(STDOUT_FILENO, b" ");
-    io::print_decimal(STDOUT_FILENO, b as u64);
-    io::write_all(STDOUT_FILENO, b"\n");
-}
+// A hexagon of resolution 2, seven levels above its table's edges.
+const COARSE: u64 = 0x0821_fb7f_ffff_ffff;
 
-// Nothing, closed, an outline with its polygons and rings, or a refusal with its number and index.
-fn show(answer: ReadOut) {
-    match answer {
-        ReadOut::Nothing => {
-            io::write_all(STDOUT_FILENO, b"nothing\n");
-        }
-        ReadOut::Closed => {
-            io::write_all(STDOUT_FILENO, b"closed\n");
-        }
-        ReadOut::Outline(polygons, rings, _) => {
-            show_numbers(b"polygons and rings ", polygons, rings);
-        }
-        ReadOut::Refused(number, index) => {
-            show_numbers(b"refused ", number, index);
-        }
+// The 122 cells of resolution 0.
+fn base_cells() -> [u64; 122]
+    ensures { λ r. ⌜ r ≡ allOfBase ⌝ }
+{
+    let mut cells = [0u64; 122];
+    let mut b: usize = 0;
+    while b < 122 {
+        cells[b] = 0x0800_1fff_ffff_ffff + b as u64 * 0x2000_0000_0000;
+        b += 1;
     }
+    cells
 }
 
-// Dissolves a list in memory of 30 slots and 7 places, and shows the answer and the lengths of two rings.
-fn dissolve_cells(list: &[u64]) {
-    let edges = EDGES;
-    let reverse = REVERSE;
-    let area = AREA;
-    let mut head = [0u32; 2];
-    let mut cells = [0u64; 7];
-    let mut parent = [0u32; 7];
-    let mut rank = [0u32; 7];
-    let mut cell_mark = [0u32; 7];
-    let mut slot_row = [0u32; 30];
-    let mut slot_cell = [0u32; 30];
-    let mut prev = [0u32; 30];
-    let mut next = [0u32; 30];
-    let mut row_slot = [0u32; 60];
-    let mut row_mark = [0u32; 60];
+fn show_dissolved(edges: &[u64], reverse: &[u32], area: &[f64], list: &[u64], mode: usize)
+    requires { ⌜ length (now edges) ≤ 26244 ⌝ }
+{
     let mut start = [0u32; 2];
     let mut size = [0u32; 2];
     let mut group = [0u32; 2];
     let mut ring_area = [0.0f64; 2];
-    let mut ring_edges = [0u32; 30];
-    let answer = solvent::dissolve(
-        &edges,
-        &reverse,
-        &area,
-        &mut head,
-        &mut cells,
-        &mut parent,
-        &mut rank,
-        &mut cell_mark,
-        &mut slot_row,
-        &mut slot_cell,
-        &mut prev,
-        &mut next,
-        &mut row_slot,
-        &mut row_mark,
+    let mut ring_edges = slot_numbers();
+    let answer = dissolve_cells(
+        edges,
+        reverse,
+        area,
         list,
         &mut start,
         &mut size,
         &mut group,
         &mut ring_area,
         &mut ring_edges,
-        0,
+        mode,
     );
-    show(answer);
-    show_numbers(b"lengths ", wide32(size[0]), wide32(size[1]));
+    show_answer(answer, &size);
+}
+
+// Dissolves a list of cells over the table of a file, and shows what comes of it.
+fn show_zone(title: &[u8], file: &[u8], list: &[u64], mode: usize) {
+    let mut edges = row_words();
+    let mut reverse = row_numbers();
+    let mut area = row_floats();
+    let rows = read_table(file, &mut edges, &mut reverse, &mut area);
+    show_title(title, rows, list.len());
+    show_dissolved(&edges[..rows], &reverse[..rows], &area[..rows], list, mode);
 }
 
 fn main() {
     let around = AROUND;
-    dissolve_cells(&around[..0]);
-    dissolve_cells(&around[..2]);
-    dissolve_cells(&around);
     let seven = [
         around[0],
         around[1],
@@ -294,7 +88,19 @@ fn main() {
         around[5],
         CENTRE,
     ];
-    dissolve_cells(&seven);
     let again = [CENTRE, around[0], CENTRE];
-    dissolve_cells(&again);
+    let world = base_cells();
+    let coarse = [COARSE];
+    show_zone(b"the empty list", b"seven_r9.table", &around[..0], 0);
+    show_zone(b"T7, two hexagons", b"seven_r9.table", &around[..2], 0);
+    show_zone(
+        b"T8, six around an absent one",
+        b"seven_r9.table",
+        &around,
+        0,
+    );
+    show_zone(b"T9, then the centre", b"seven_r9.table", &seven, 0);
+    show_zone(b"a cell named again", b"seven_r9.table", &again, 0);
+    show_zone(b"all of resolution 0", b"world_r0.table", &world, 0);
+    show_zone(b"delta 7", b"gosper_d7_r9.table", &coarse, 1);
 }

@@ -1,0 +1,2 @@
+-- The cells of resolution 0.
+pub mod BaseCells

@@ -1,3 +1,4 @@
 -- What the contracts and the theorems of this crate cite beside `scope`.
 pub mod Checks
+pub mod Notes
 pub mod Turns

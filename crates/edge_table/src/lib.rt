@@ -1,5 +1,7 @@
 // The edge table in lent memory: three slices, edge numbers, reverse rows and area terms. Its check, in two
 // passes, and the search for an edge's row, by halving.
+pub mod notes;
+
 use index::is_edge;
 use index::resolution;
 use scope::Found;

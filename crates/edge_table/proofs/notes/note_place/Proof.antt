@@ -1,0 +1,21 @@
+-- `edge_table::notes::note_place` meets its contract. The place is below the number of notes.
+-- Assumes nothing.
+use native.Mathlib.Omega.{arith}
+use borrow.Author.Needs.{needs}
+use Rattle.edge_table.specs.Notes.{notePlace}
+use Rattle.edge_table.proofs.Noting.{product-fits, place-in}
+use Rattle.edge_table.proofs.notes.note_place.Statement.{statement}
+use Rattle.edge_table.proofs.notes.note_place.Tie as tie
+
+spread-requires : tie.Need-spread-requires
+spread-requires c κs = search needs
+
+mul-result : tie.Need-mul-result
+mul-result c = let w = product-fits _ _ (c .spread .ensures .1) (c .before .pre) in omega arith
+
+returns : tie.Need-returns
+unfolding notePlace
+returns c = (rw (c .spread .ensures .0), place-in _ _ (c .spread .ensures .1))
+
+pub note-place-spec : {M : Type 1} → statement M
+note-place-spec = tie.close (tie.spec spread-requires mul-result returns)

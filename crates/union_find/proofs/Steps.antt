@@ -57,10 +57,11 @@ found rs n ps a r ps′ w h e =
       same = λ i l. rw e₁ at (find-same rs n ps w a h i l);
     }
 
-pub hang-asks : (ps rs : List ℕ) (n : ℕ) → Forest ps rs n → (low top : ℕ) → low < n → top < n → at ps top ≡ top → n < 2 ^ 32 → HangAsks ps rs low top
-hang-asks ps rs n w low top hl ht rt m = record {
+pub hang-asks : (ps rs : List ℕ) (n : ℕ) → Forest ps rs n → (low top k : ℕ) → low < n → top < n → at ps top ≡ top → k ≡ at rs top → n < 2 ^ 32 → HangAsks ps rs low top k
+hang-asks ps rs n w low top k hl ht rt e m = record {
   low-in = omega (arith, w .room);
   top-in = omega (arith, w .room, w .ranks);
+  ranked = e;
   fits = omega arith;
   grows = omega (arith, hang-low ps rs n w top ht rt);
 }

@@ -19,12 +19,13 @@ pub record Found (ps rs : List ℕ) (n a r : ℕ) (ps′ : List ℕ) : Type 0 wh
   pub roots : (i : ℕ) → at ps i ≡ i → at ps′ i ≡ i
   pub same : (i : ℕ) → i < n → rootOf ps′ i ≡ rootOf ps i
 
--- Hanging one root under another: both are places, and the numbers fit.
-pub record HangAsks (ps rs : List ℕ) (low top : ℕ) : Type 0 where
+-- Hanging one root under another, which has the rank k: both are places, and the numbers fit.
+pub record HangAsks (ps rs : List ℕ) (low top k : ℕ) : Type 0 where
   pub low-in : low < length ps
   pub top-in : top < length rs
+  pub ranked : k ≡ at rs top
   pub fits : top < 2 ^ 32
-  pub grows : at rs top + 1 < 2 ^ 32
+  pub grows : k + 1 < 2 ^ 32
 
 abbrev pub Hung : List ℕ → List ℕ → ℕ → ℕ → List ℕ → List ℕ → Type 0
 Hung ps rs low top ps′ rs′ = (ps′ ≡ hang ps rs low top .parents) × (rs′ ≡ hang ps rs low top .ranks)

@@ -32,13 +32,12 @@ pub fn find(parent: &mut [u32], rank: &[u32], n: usize, a: usize) -> usize
     x
 }
 
-// The root `low` goes under the root `top`, whose rank grows.
-fn hang(parent: &mut [u32], rank: &mut [u32], low: usize, top: usize)
-    requires { ⌜ HangAsks (now parent) (now rank) low top ⌝ }
+// The root `low` goes under the root `top`, whose rank `k` grows.
+fn hang(parent: &mut [u32], rank: &mut [u32], low: usize, top: usize, k: usize)
+    requires { ⌜ HangAsks (now parent) (now rank) low top k ⌝ }
     ensures { λ _. ⌜ Hung (now (parent .entry)) (now (rank .entry)) low top (now (parent .exit)) (now (rank .exit)) ⌝ }
 {
     put32(parent, low, top);
-    let k = get32(rank, top);
     put32(rank, top, k + 1);
 }
 
@@ -56,9 +55,9 @@ pub fn union(parent: &mut [u32], rank: &mut [u32], n: usize, a: usize, b: usize)
     let rank_a = get32(rank, root_a);
     let rank_b = get32(rank, root_b);
     if rank_a < rank_b {
-        hang(parent, rank, root_a, root_b);
+        hang(parent, rank, root_a, root_b, rank_b);
     } else {
-        hang(parent, rank, root_b, root_a);
+        hang(parent, rank, root_b, root_a, rank_a);
     }
 }
 

@@ -7,9 +7,6 @@ use Rattle.union_find.proofs.hang.Tie as tie
 put32-requires : tie.Need-put32-requires
 put32-requires c κs = search needs
 
-get32-requires : tie.Need-get32-requires
-get32-requires c κs = search needs
-
 add-put32 : tie.Need-add-put32
 add-put32 c = search needs
 
@@ -23,14 +20,15 @@ same-length-2 : tie.Need-same-length-2
 same-length-2 c = search needs
 
 returns : tie.Need-returns
-returns c = (search needs, rw (c .before .before .before .before .get32 .ensures .0) at (c .before .before .put322 .ensures))
+returns c =
+    let start = c .before .before .before .before .before .before .before .before .before .before in
+    (search needs, rw (start .pre .ranked) at (c .before .before .put322 .ensures))
 
 pub hang-spec : {M : Type 1} → statement M
 hang-spec =
     tie.close
     (tie.spec
     put32-requires
-    get32-requires
     add-put32
     put32-requires-2
     same-length

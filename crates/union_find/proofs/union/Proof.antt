@@ -35,14 +35,14 @@ hang-requires c κs =
     let f = c .before .before .before .before .before .before .before .before .before .before in
     let e = f .before .before .before .before .before in
     let p = e .before .before .before .before .before .pre in
-    hang-asks _ _ _ (f .find2 .ensures .keeps) _ _ (e .find .ensures .held) (f .find2 .ensures .held) (f .find2 .ensures .top) (p .fits)
+    hang-asks _ _ _ (f .find2 .ensures .keeps) _ _ _ (e .find .ensures .held) (f .find2 .ensures .held) (f .find2 .ensures .top) (c .before .before .before .get322 .ensures .0) (p .fits)
 
 hang-requires-2 : tie.Need-hang-requires-2
 hang-requires-2 c κs =
     let f = c .before .before .before .before .before .before .before .before .before .before in
     let e = f .before .before .before .before .before in
     let p = e .before .before .before .before .before .pre in
-    hang-asks _ _ _ (f .find2 .ensures .keeps) _ _ (f .find2 .ensures .held) (e .find .ensures .held) (f .find2 .ensures .roots _ (e .find .ensures .top)) (p .fits)
+    hang-asks _ _ _ (f .find2 .ensures .keeps) _ _ _ (f .find2 .ensures .held) (e .find .ensures .held) (f .find2 .ensures .roots _ (e .find .ensures .top)) (c .before .before .before .before .before .get32 .ensures .0) (p .fits)
 
 same-length-3 : tie.Need-same-length-3
 same-length-3 c = search needs

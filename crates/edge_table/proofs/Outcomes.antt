@@ -13,6 +13,7 @@ use Rattle.scope.specs.Table.{Table, rowCount, rowCountFits, hasTarget, rowGood
 use Rattle.scope.specs.Memory.{tableAgrees}
 use Rattle.scope.proofs.Tests.{and-left, and-right}
 use Rattle.edge_table.specs.Checks.{checked}
+use Rattle.edge_table.specs.Straight.{NoneBad}
 
 pub some-rows : (n : ℕ) → rowCountFits n ≡ true → 0 < n
 some-rows n fits = let h = leb-true 2 n (and-left (leb 2 n) _ fits) in omega arith
@@ -28,6 +29,11 @@ module _ (t : Table) where
         let h : length (t .area) ≡ rowCount t = eqb-true _ _ (and-right (eqb (length (t .reverse)) (rowCount t)) _ agree) in
         omega arith
 
+    enough-rows : rowCount t ≤ length (t .reverse)
+    enough-rows =
+        let h : length (t .reverse) ≡ rowCount t = eqb-true _ _ (and-left (eqb (length (t .reverse)) (rowCount t)) _ agree) in
+        omega arith
+
     pub count-out : rowCountFits (rowCount t) ≡ false → Refused 1 0 ≡ checked t
     unfolding checked tableVerdict
     count-out e = rw (agree, e)
@@ -36,6 +42,12 @@ module _ (t : Table) where
       pub targets-differ : passes (hasTarget (t .edges)) (rowCount t) ≡ false → Refused 1 0 ≡ checked t
       unfolding checked tableVerdict
       targets-differ e = rw (agree, fits, e)
+
+      pub none-bad-good : NoneBad t → Accepted ≡ checked t
+      unfolding checked tableVerdict
+      none-bad-good N =
+          let e : firstBad (rowGood t) (rowCount t) ≡ rowCount t = eqb-true _ _ (N .rows enough-rows enough-terms) in
+          rw (agree, fits, N .targets, e, le-ltb (rowCount t) (rowCount t) (omega arith))
 
       module _ (targets : passes (hasTarget (t .edges)) (rowCount t) ≡ true) (bad : ℕ) (lowest : bad ≡ firstBad (rowGood t) (rowCount t)) where
         pub row-bad : bad < rowCount t → Refused 1 bad ≡ checked t

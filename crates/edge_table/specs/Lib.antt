@@ -1,4 +1,5 @@
 -- What the contracts and the theorems of this crate cite beside `scope`.
 pub mod Checks
 pub mod Notes
+pub mod Straight
 pub mod Turns

@@ -1,12 +1,13 @@
-// The edge table in lent memory: three slices, edge numbers, reverse rows and area terms. Its check, in two
-// passes, and the search for an edge's row, by halving.
+// The edge table in lent memory: three slices, edge numbers, reverse rows and area terms. Its check, and the search for an edge's row, by halving.
 pub mod notes;
+mod straight;
 
 use index::is_edge;
 use index::resolution;
 use scope::Found;
 use scope::Verdict;
 use slices::at32;
+use straight::none_bad;
 ghost use mathlib.Core.Path.{_≡_};
 ghost use mathlib.Core.Bool.{true};
 ghost use Prim.Native.Nat.{_<_, _≤_};
@@ -91,6 +92,9 @@ pub fn check_table(edges: &[u64], reverse: &[u32], area: &[f64]) -> Verdict
     }
     if !((2 <= rows) & (rows <= 65536)) {
         return Verdict::Refused(1, 0);
+    }
+    if none_bad(edges, reverse, area) {
+        return Verdict::Accepted;
     }
     if !one_resolution(edges) {
         return Verdict::Refused(1, 0);

@@ -1,0 +1,170 @@
+-- Passes over a column with no early end, and what they tell of the whole table.
+--     Passing, passing-start, -more, -done     the loop: `kept` says that the test holds at every row so far
+--     digits-at         one comparison tells the digits, where the resolution is the target
+--     sides-end         past the first edge whose top byte is above 17 no edge is edge 1
+--     columns-from      the passes over the columns, one by one
+--     none-bad          where every column passes, every row does
+-- Assumes nothing.
+use Prim.Native.Nat.{ℕ, _+_, _-_, _*_, _/_, _^_, _<_, _≤_}
+use mathlib.Core.Path.{_≡_, refl, sym, _∙_, ap}
+use mathlib.Core.Bool.{Bool, true, false, _&&_, not}
+use mathlib.Core.List.{List}
+use mathlib.Core.Logic.{⊎-elim}
+use native.Mathlib.Nat.{eq-or-lt-of-le}
+use native.Mathlib.Omega.{arith}
+use lib.Bits.{bitAnd}
+use lib.Dec.{eqb, leb}
+use lib.ListN.{length, getD}
+use lib.Ieee.{nan}
+use borrow.Author.Tests.{ne-eqb, eqb-true, le-leb, leb-true}
+use Rattle.scope.specs.Lists.{at, all, passes}
+use Rattle.scope.specs.Cells.{resolutionOf, baseCell, digitFits, isPentagon, validEdge}
+use Rattle.scope.specs.Table.{Table, rowCount, targetOf, hasTarget, isFinite, ascends, paired, rowGood}
+use Rattle.scope.proofs.Tests.{either, same, and-left, and-right, and-both, and-false, le-or-lt}
+use Rattle.scope.proofs.Scan.{passes-at, passes-all, Going}
+use Rattle.scope.proofs.Tables.{Ascending, ascending}
+use Rattle.scope.proofs.Edges.{validEdge-is}
+use Rattle.index.proofs.Digits.{digits-fit}
+use Rattle.edge_table.specs.Straight.{digitsFitAt, digitsKept, sideKept, finiteAt, Columns, NoneBad}
+
+-- ---- the loop
+
+pub record Passing (ok : ℕ → Bool) (n i : ℕ) (kept : Bool) : Type 0 where
+  pub within : i ≤ n
+  pub so-far : kept ≡ passes ok i
+
+pub passing-start : {ok : ℕ → Bool} {n : ℕ} → Passing ok n 0 true
+passing-start {ok} = record { within = omega arith; so-far = sym (passes-all ok 0 (λ k h. absurd (omega arith))) }
+
+passes-step : (ok : ℕ → Bool) (i : ℕ) → (passes ok i && ok i) ≡ passes ok (i + 1)
+passes-step ok i = same _ _
+    (λ e. passes-all ok (i + 1) (λ k h. ⊎-elim
+    (λ (q : k ≡ i). ap ok q ∙ and-right (passes ok i) (ok i) e)
+    (λ (q : k < i). passes-at ok i (and-left (passes ok i) (ok i) e) k q)
+    (eq-or-lt-of-le (upto h))))
+    (λ e. and-both (passes ok i) (ok i)
+    (passes-all ok i (λ k h. passes-at ok (i + 1) e k (omega arith)))
+    (passes-at ok (i + 1) e i (omega arith)))
+  where
+    upto : {k : ℕ} → k < i + 1 → k ≤ i
+    upto h = omega arith
+
+module _ {ok : ℕ → Bool} {n i : ℕ} {kept : Bool} (P : Passing ok n i kept) where
+  pub passing-more : i < n → {b : Bool} → b ≡ ok i → Passing ok n (i + 1) (kept && b)
+  passing-more h e = record { within = omega arith; so-far = rw (P .so-far, e) (passes-step ok i) }
+
+  pub passing-done : n ≤ i → kept ≡ passes ok n
+  passing-done h = let e : i ≡ n = omega (arith, P .within) in P .so-far ∙ ap (passes ok) e
+
+-- ---- digits
+
+pub digits-at : (target x : ℕ)
+    → (eqb (resolutionOf x) target && leb (baseCell x) 121 && eqb (bitAnd (bitAnd (bitAnd x (x / 2)) (x / 4)) 0o111111111111111) (0o111111111111111 / 2 ^ (3 * target)))
+    ≡ digitsFitAt target x
+digits-at target x = ⊎-elim
+    (λ t. let e : resolutionOf x ≡ target = eqb-true _ _ t in
+    ap (λ (b : Bool). eqb (resolutionOf x) target && leb (baseCell x) 121 && b)
+    (ap (λ (r : ℕ). eqb (bitAnd (bitAnd (bitAnd x (x / 2)) (x / 4)) 0o111111111111111) (0o111111111111111 / 2 ^ (3 * r))) (sym e) ∙ digits-fit x))
+    (λ t. rw t)
+    (either (eqb (resolutionOf x) target))
+
+-- ---- edge 1 of a pentagon
+
+pub side-is : (x : ℕ) {b v : Bool} → b ≡ isPentagon x → (b && eqb (x / 2 ^ 56) 17) ≡ v → not (isPentagon x && eqb (x / 2 ^ 56) 17) ≡ not v
+side-is x e t = rw (← e) (ap not t)
+
+abbrev top : List ℕ → ℕ → ℕ
+top es i = at es i / 2 ^ 56
+
+module _ (es : List ℕ) (O : Ascending es) where
+  tops-rise : (i j : ℕ) → i ≤ j → j < length es → top es i ≤ top es j
+  tops-rise i j h l = ⊎-elim
+      (λ (e : i ≡ j). rw e (omega arith))
+      (λ (g : i < j). let o = O .order i j g l in omega arith)
+      (eq-or-lt-of-le h)
+
+  pub sides-end : (i : ℕ) → Going (sideKept es) (length es) i → i < length es → 17 < top es i → passes (sideKept es) (length es) ≡ true
+  sides-end i G h above = passes-all (sideKept es) (length es) (λ k l. ⊎-elim
+      (λ (g : i ≤ k).
+      let r = tops-rise i k g l in
+      let f : eqb (top es k) 17 ≡ false = ne-eqb (top es k) 17 (λ e. omega arith) in
+      ap not (ap (λ (b : Bool). isPentagon (at es k) && b) f ∙ and-false (isPentagon (at es k))))
+      (λ (g : k < i). G .passed k g)
+      (le-or-lt i k))
+
+-- ---- the whole table
+
+pub columns-from : (t : Table) {d o p f : Bool} → d ≡ passes (digitsKept (targetOf t) (t .edges)) (rowCount t) → o ≡ passes (ascends (t .edges)) (rowCount t)
+    → p ≡ passes (paired (t .reverse)) (length (t .reverse)) → f ≡ passes (finiteAt (t .area)) (length (t .area))
+    → (leb 17 (top (t .edges) 0) && leb (top (t .edges) (rowCount t - 1)) 22 && d && o && (p && f)) ≡ true → Columns t
+columns-from t {d} {o} {p} {f} ed eo ep ef e =
+    record {
+      first = leb-true 17 (top (t .edges) 0) (and-left low high tops);
+      last = leb-true (top (t .edges) (rowCount t - 1)) 22 (and-right low high tops);
+      digits = sym ed ∙ and-right ends d with-digits;
+      order = sym eo ∙ and-right (ends && d) o with-order;
+      pairs = sym ep ∙ and-left p f (and-right (ends && d && o) (p && f) e);
+      finite = sym ef ∙ and-right p f (and-right (ends && d && o) (p && f) e);
+    }
+  where
+    low : Bool
+    low = leb 17 (top (t .edges) 0)
+
+    high : Bool
+    high = leb (top (t .edges) (rowCount t - 1)) 22
+
+    ends : Bool
+    ends = low && high
+
+    with-order : (ends && d && o) ≡ true
+    with-order = and-left (ends && d && o) (p && f) e
+
+    with-digits : (ends && d) ≡ true
+    with-digits = and-left (ends && d) o with-order
+
+    tops : ends ≡ true
+    tops = and-left ends d with-digits
+
+module _ (t : Table) (C : Columns t) (sides : passes (sideKept (t .edges)) (rowCount t) ≡ true) where
+  abbrev es : List ℕ
+  es = t .edges
+
+  O : Ascending es
+  O = ascending es (C .order)
+
+  module _ (i : ℕ) (h : i < rowCount t) where
+    digits : digitsFitAt (targetOf t) (at es i) ≡ true
+    digits = passes-at (digitsKept (targetOf t) es) (rowCount t) (C .digits) i h
+
+    -- the resolution, the base cell and the digits, one by one
+    outer : (eqb (resolutionOf (at es i)) (targetOf t) && leb (baseCell (at es i)) 121) ≡ true
+    outer = and-left _ (all (digitFits (at es i)) 15) digits
+
+    resolution : eqb (resolutionOf (at es i)) (targetOf t) ≡ true
+    resolution = and-left _ (leb (baseCell (at es i)) 121) outer
+
+    valid : validEdge (at es i) ≡ true
+    valid =
+        let low = tops-rise es O 0 i (omega arith) h in
+        let high = tops-rise es O i (rowCount t - 1) (omega arith) (omega arith) in
+        validEdge-is (at es i) ∙ rw (
+          le-leb 17 (top es i) (omega (arith, C .first)),
+          le-leb (top es i) 22 (omega (arith, C .last)),
+          and-right (eqb (resolutionOf (at es i)) (targetOf t)) _ outer,
+          and-right (eqb (resolutionOf (at es i)) (targetOf t) && leb (baseCell (at es i)) 121) _ digits,
+        )
+        (passes-at (sideKept es) (rowCount t) sides i h)
+
+  module _ (long : rowCount t ≤ length (t .reverse)) (wide : rowCount t ≤ length (t .area)) where
+    good : (i : ℕ) → i < rowCount t → rowGood t i ≡ true
+    unfolding rowGood
+    good i h =
+        let p = passes-at (paired (t .reverse)) (length (t .reverse)) (C .pairs) i (omega arith) in
+        let f = passes-at (finiteAt (t .area)) (length (t .area)) (C .finite) i (omega arith) in
+        rw (valid i h, passes-at (ascends es) (rowCount t) (C .order) i h, p, f)
+
+  pub none-bad : NoneBad t
+  none-bad = record {
+    targets = passes-all (hasTarget es) (rowCount t) resolution;
+    rows = λ long wide. passes-all (rowGood t) (rowCount t) (good long wide);
+  }

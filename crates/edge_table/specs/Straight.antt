@@ -1,0 +1,40 @@
+-- The rules of a table that a pass over one column can tell.
+-- Assumes nothing.
+use Prim.Native.Nat.{ℕ, _-_, _/_, _^_, _≤_}
+use mathlib.Core.Path.{_≡_}
+use mathlib.Core.Bool.{Bool, true, not, _&&_}
+use mathlib.Core.List.{List}
+use lib.Dec.{eqb, leb}
+use lib.ListN.{length, getD}
+use lib.Ieee.{Float, nan}
+use Rattle.scope.specs.Lists.{at, all, passes}
+use Rattle.scope.specs.Cells.{resolutionOf, baseCell, digitFits, isPentagon}
+use Rattle.scope.specs.Table.{Table, rowCount, targetOf, hasTarget, isFinite, ascends, paired, rowGood}
+
+-- The target's resolution, a base cell, and the digits that a valid edge has.
+abbrev pub digitsFitAt : ℕ → ℕ → Bool
+digitsFitAt target x = eqb (resolutionOf x) target && leb (baseCell x) 121 && all (digitFits x) 15
+
+abbrev pub digitsKept : ℕ → List ℕ → ℕ → Bool
+digitsKept target es i = digitsFitAt target (at es i)
+
+-- Not edge 1 of a pentagon, by the top byte.
+abbrev pub sideKept : List ℕ → ℕ → Bool
+sideKept es i = not (isPentagon (at es i) && eqb (at es i / 2 ^ 56) 17)
+
+abbrev pub finiteAt : List Float → ℕ → Bool
+finiteAt terms i = isFinite (getD terms i nan)
+
+-- What the passes over the columns have shown.
+pub record Columns (t : Table) : Type 0 where
+  pub first : 17 ≤ at (t .edges) 0 / 2 ^ 56
+  pub last : at (t .edges) (rowCount t - 1) / 2 ^ 56 ≤ 22
+  pub digits : passes (digitsKept (targetOf t) (t .edges)) (rowCount t) ≡ true
+  pub order : passes (ascends (t .edges)) (rowCount t) ≡ true
+  pub pairs : passes (paired (t .reverse)) (length (t .reverse)) ≡ true
+  pub finite : passes (finiteAt (t .area)) (length (t .area)) ≡ true
+
+-- Every row has the target's resolution and breaks no rule, where the columns have one length.
+pub record NoneBad (t : Table) : Type 0 where
+  pub targets : passes (hasTarget (t .edges)) (rowCount t) ≡ true
+  pub rows : rowCount t ≤ length (t .reverse) → rowCount t ≤ length (t .area) → passes (rowGood t) (rowCount t) ≡ true

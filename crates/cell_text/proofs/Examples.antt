@@ -14,11 +14,11 @@ use Rattle.cell_text.specs.Lines.{Reading, lines, reading, fitted, cells
 text : List ℕ
 text = ascii "0x1F\n\n# a\n  aB # b\r\n2"
 
-whole : cellsOf 3 text ≡ record { cells = 31 ∷ 171 ∷ 2 ∷ []; numbers = 0 ∷ 3 ∷ 4 ∷ []; end = Whole }
+whole : cellsOf 3 text ≡ record { cells = 31 ∷ 171 ∷ 2 ∷ []; numbers = 1 ∷ 4 ∷ 5 ∷ []; end = Whole }
 unfolding text from firstBad leading blanksAfter prefixOf numberIn digitsOf wordOf trimmedOf bodyOf lineOf lines reading fitted cellsOf
 whole = refl
 
-too-many : cellsOf 2 text ≡ record { cells = 31 ∷ 171 ∷ []; numbers = 0 ∷ 3 ∷ []; end = TooMany 4 }
+too-many : cellsOf 2 text ≡ record { cells = 31 ∷ 171 ∷ []; numbers = 1 ∷ 4 ∷ []; end = TooMany 5 }
 unfolding text from firstBad leading blanksAfter prefixOf numberIn digitsOf wordOf trimmedOf bodyOf lineOf lines reading fitted cellsOf
 too-many = refl
 
@@ -27,6 +27,6 @@ endOf : String → Ending
 unfolding cellsOf
 endOf s = cellsOf 2 (ascii s) .end
 
-faults : (endOf "1\n 12g4" ≡ Fault 1 3) × (endOf "0x # a" ≡ Fault 0 2) × (endOf "0x12345678901234567" ≡ Fault 0 18) × (endOf "1 2" ≡ Fault 0 1)
+faults : (endOf "1\n 12g4" ≡ Fault 2 4) × (endOf "0x # a" ≡ Fault 1 3) × (endOf "0x12345678901234567" ≡ Fault 1 19) × (endOf "1 2" ≡ Fault 1 2)
 unfolding endOf from firstBad leading blanksAfter prefixOf numberIn digitsOf wordOf trimmedOf bodyOf lineOf lines reading fitted cellsOf
 faults = (refl, refl, refl, refl)

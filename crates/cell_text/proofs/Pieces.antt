@@ -34,9 +34,9 @@ module _ (d : List ℕ) (start : ℕ) {n : ℕ} (e : n ≡ leading Digit d) wher
   unfolding digitsOf
   digits-cell t {v} p = rw (← e, t) (ap Cell (p ∙ ap (numberIn d) (sym (all-digits n (length d) t))))
 
-  pub digits-fault : (eqb n (length d) && leb 1 n && leb n 16) ≡ false → {m : ℕ} → m ≡ min n 16 → Fault (start + m) ≡ digitsOf start d
+  pub digits-fault : (eqb n (length d) && leb 1 n && leb n 16) ≡ false → {m : ℕ} → m ≡ min n 16 → Fault (start + m + 1) ≡ digitsOf start d
   unfolding digitsOf
-  digits-fault t {m} p = rw (← e, t) (ap (λ (k : ℕ). Fault (start + k)) p)
+  digits-fault t {m} p = rw (← e, t) (ap (λ (k : ℕ). Fault (start + k + 1)) p)
 
 pub word-is : (w : List ℕ) (start : ℕ) {p : ℕ} {r : Line} → (length w ≡ 0 → ⊥) → p ≡ prefixOf w → r ≡ digitsOf (start + p) (take (length w - p) (drop p w)) → r ≡ wordOf start w
 unfolding wordOf

@@ -104,10 +104,10 @@ pub record Come (text cells₀ numbers₀ : List ℕ) (room : ℕ) (cells number
   pub cells-are : cells ≡ sets cells₀ 0 found
   pub numbers-are : numbers ≡ sets numbers₀ 0 places
   pub within : a ≤ length text + 1
-  pub counted : number ≤ a
-  pub whole : reading 0 (lines text) ≡ behind found places (reading number (left text a))
+  pub counted : number ≤ a + 1
+  pub whole : reading 1 (lines text) ≡ behind found places (reading number (left text a))
 
-pub come-none : (text cells numbers : List ℕ) (room : ℕ) → Come text cells numbers room cells numbers 0 0 0
+pub come-none : (text cells numbers : List ℕ) (room : ℕ) → Come text cells numbers room cells numbers 0 1 0
 unfolding left
 come-none text cells numbers room = record {
   found = [];
@@ -119,7 +119,7 @@ come-none text cells numbers room = record {
   numbers-are = refl;
   within = omega arith;
   counted = omega arith;
-  whole = ap (λ (t : Bool). behind [] [] (reading 0 (cond t (lines text) []))) (sym (le-leb 0 (length text) (omega arith)));
+  whole = ap (λ (t : Bool). behind [] [] (reading 1 (cond t (lines text) []))) (sym (le-leb 0 (length text) (omega arith)));
 }
 
 -- one more value stored behind a run
@@ -129,7 +129,7 @@ sets-last b (y ∷ x) v s k e = sets-last (set b s y) x v (suc s) k (omega arith
 
 -- a reading that ends where it has come to
 ended-here : {text cells₀ numbers₀ : List ℕ} {room : ℕ} {cells numbers : List ℕ} {a number count : ℕ} (C : Come text cells₀ numbers₀ room cells numbers a number count) (e : Ending)
-    → reading 0 (lines text) ≡ behind (C .found) (C .places) (ended e) → Stored (cellsOf room text) cells₀ numbers₀ (record { count = count; ending = e }) cells numbers
+    → reading 1 (lines text) ≡ behind (C .found) (C .places) (ended e) → Stored (cellsOf room text) cells₀ numbers₀ (record { count = count; ending = e }) cells numbers
 unfolding cellsOf fitted
 ended-here {text} {cells₀} {numbers₀} {room} C e r =
     let m = C .found-long in let f = C .fits in
@@ -148,7 +148,7 @@ module _ {text cells₀ numbers₀ : List ℕ} {room : ℕ} {cells numbers : Lis
   rest : Reading
   rest = reading (number + 1) (left text (next .end + 1))
 
-  read-next : {l : Line} → next .line ≡ l → reading 0 (lines text) ≡ behind (C .found) (C .places) (andLine l number rest)
+  read-next : {l : Line} → next .line ≡ l → reading 1 (lines text) ≡ behind (C .found) (C .places) (andLine l number rest)
   unfolding rest reading
   read-next {l} e =
       C .whole

@@ -1,4 +1,4 @@
--- The cells of a text with the lines that they stand on, up to the first fault. Lines are counted from 0, and so are places in a line.
+-- The cells of a text with the lines that they stand on, up to the first fault. Lines are counted from 1, and so are the bytes of a line.
 -- Assumes nothing.
 use Prim.Native.Nat.{ℕ, suc, _+_, _≤_}
 use mathlib.Core.Path.{_≡_}
@@ -61,7 +61,7 @@ fitted room r =
     (record { cells = take room (r .cells); numbers = take room (r .numbers); end = ending.TooMany (at (r .numbers) room) })
 
 unfoldable pub cellsOf : ℕ → List ℕ → Reading
-cellsOf room text = fitted room (reading 0 (lines text))
+cellsOf room text = fitted room (reading 1 (lines text))
 
 -- ---- what the functions promise
 

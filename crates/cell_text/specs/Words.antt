@@ -1,5 +1,4 @@
--- A line of a cell list: blank, a comment, or one cell in hexadecimal with or without 0x. A line is a list of bytes, and places
--- in it are counted from 0.
+-- A line of a cell list: blank, a comment, or one cell in hexadecimal with or without 0x. A line is a list of bytes.
 -- Assumes nothing.
 use Prim.Native.Nat.{ℕ, zero, suc, _+_, _-_, _*_, _%_, min}
 use mathlib.Core.Bool.{Bool, _&&_, _||_, not, cond}
@@ -69,11 +68,11 @@ numberIn d zero = 0
 numberIn d (suc n) = numberIn d n * 16 + worth (at d n)
 
 -- A cell is 1 to 16 digits. Else the fault is at the first byte that is no digit, at the seventeenth digit, or where digits are missing;
--- start is the place of the digits in the line.
+-- start is how many bytes of the line stand before the digits, and the fault's byte is counted from 1.
 unfoldable pub digitsOf : ℕ → List ℕ → Line
 digitsOf start d =
     let n = leading Digit d in
-    cond (eqb n (length d) && leb 1 n && leb n 16) (Cell (numberIn d n)) (Fault (start + min n 16))
+    cond (eqb n (length d) && leb 1 n && leb n 16) (Cell (numberIn d n)) (Fault (start + min n 16 + 1))
 
 unfoldable pub wordOf : ℕ → List ℕ → Line
 wordOf start w = cond (eqb (length w) 0) Passed (digitsOf (start + prefixOf w) (drop (prefixOf w) w))

@@ -62,7 +62,7 @@ pub fn read_cells(text: &[u8], cells: &mut [u64], numbers: &mut [usize]) -> List
 {
     let room = least(cells.len(), numbers.len());
     let mut at: usize = 0;
-    let mut number: usize = 0;
+    let mut number: usize = 1;
     let mut count: usize = 0;
     while at <= text.len() {
         let next = next_line(text, at);

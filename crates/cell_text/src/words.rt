@@ -118,7 +118,7 @@ fn read_digits(digits: &[u8], start: usize) -> Line
     if (n == digits.len()) & (1 <= n) & (n <= 16) {
         return Line::Cell(number_in(digits));
     }
-    Line::Fault(start + least(n, 16))
+    Line::Fault(start + least(n, 16) + 1)
 }
 
 fn read_word(word: &[u8], start: usize) -> Line

@@ -25,10 +25,13 @@ least-requires c κs = search needs
 add-t12 : tie.Need-add-t12
 add-t12 c = search needs
 
+add-t13 : tie.Need-add-t13
+add-t13 c = search needs
+
 returns-2 : tie.Need-returns-2
 returns-2 c = digits-fault _ _ (c .before .before .leading .ensures .0) (c .before .if1 .left) (c .least .ensures)
 
 pub read-digits-spec : {M : Type 1} → statement M
 read-digits-spec =
     tie.close
-    (tie.spec leading-requires number-in-requires returns least-requires add-t12 returns-2)
+    (tie.spec leading-requires number-in-requires returns least-requires add-t12 add-t13 returns-2)

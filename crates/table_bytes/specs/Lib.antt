@@ -1,0 +1,2 @@
+-- What a table file is.
+pub mod Files

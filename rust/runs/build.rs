@@ -1,6 +1,6 @@
 //! Says what is there when the runs are built.
-//! - cfg `subject`: the library under test, the archive that `rt staticlib host` writes at the root of the repository (or in the folder
-//!   ZONE_LIB), is linked. Without it the runs compare the rules with the oracle alone. cfg `exports`: it has the calls at full size too.
+//! - cfgs `subject` and `exports`: the library under test, the archive that `rt staticlib host` writes at the root of the repository (or in
+//!   the folder ZONE_LIB), has the byte entry points, and the calls at full size. Without it the runs compare the rules with the oracle alone.
 //! - cfg `h3o`: the oracle has the crate's texts (the same test as in its build.rs).
 use std::{env, fs, path::Path, path::PathBuf};
 
@@ -25,13 +25,12 @@ fn link_library(folder: &Path) {
     let Ok(bytes) = fs::read(&archive) else {
         return;
     };
-    let names = |symbol: &[u8]| bytes.windows(symbol.len()).any(|part| part == symbol);
-    if names(b"zone_dissolve") && names(b"zone_standing") {
-        println!("cargo::rustc-cfg=subject");
-        println!("cargo::rustc-link-search=native={}", folder.display());
-        println!("cargo::rustc-link-lib=static=host");
-        if names(b"zo_dissolve") && names(b"zo_offer") {
-            println!("cargo::rustc-cfg=exports");
+    let has = |symbol: &str| bytes.windows(symbol.len()).any(|part| part == symbol.as_bytes());
+    for (flag, symbol) in [("subject", "zone_standing"), ("exports", "zo_dissolve")] {
+        if has(symbol) {
+            println!("cargo::rustc-cfg={flag}");
         }
     }
+    println!("cargo::rustc-link-search=native={}", folder.display());
+    println!("cargo::rustc-link-lib=static=host");
 }

@@ -1,5 +1,6 @@
 //! The runs: the library under test against document 01's rules (`rules`) and against the Rust (`oracle`).
 mod bench;
+mod clock;
 mod list;
 mod oracle_answer;
 mod problem;
@@ -30,6 +31,7 @@ runs [--seed N] [--rounds N] [--tables FOLDER] [SECTION...]
       damage    damaged tables, states and lists, and states that calls alone would not make
       odd       tables that make no surface; and what the Rust does there
       pool      the Rust's private slots and parents beside the rules'
+      full      the calls at full size, on larger tables
     --seed N    another start of the random numbers (1)
     --rounds N  as many random problems in each section (a minute's worth in all)
     --tables F  the folder of the real tables (shared/tables beside the repository, or the environment's ZONE_TABLES)
@@ -107,8 +109,11 @@ fn all_is_there(tables: &Folder) -> Result<bool, String> {
     let library = "the library (target/staticlib/libhost.a) was not there when this was built: the rules are compared with the Rust alone";
     let texts = "the Rust's texts were not there when this was built: the library is compared with the rules alone";
     let folder = format!("no real tables in {}: only the fixed list is replayed", tables.0.display());
-    let parts =
-        [(subject::AVAILABLE, false, library), (oracle::AVAILABLE, true, texts), (tables.is_there(), true, folder.as_str())];
+    let parts = [
+        (subject::AVAILABLE, false, library),
+        (oracle::AVAILABLE, true, texts),
+        (tables.is_there(), true, folder.as_str()),
+    ];
     for (_, needed, missing) in parts.iter().filter(|(there, ..)| !there) {
         if *needed && env::var_os("CI").is_some() {
             return Err((*missing).into());

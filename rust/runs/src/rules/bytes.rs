@@ -1,12 +1,5 @@
 //! The two ways in on byte slices, in the host's formats: little-endian, at most 1,024 rows, 1,024 slots, 256 places and 256 cells.
-use super::{
-    Refusal, Verdict, calls,
-    lists::Kept,
-    memory::Memory,
-    refuse,
-    rings::{ReadOut, Ring},
-    table::Table,
-};
+use super::{Verdict, answer, calls, lists::Kept, memory::Memory, refuse, rings::ReadOut, table::Table};
 
 pub const MOST_ROWS: usize = 1024;
 pub const MOST_SLOTS: u32 = 1024;
@@ -19,7 +12,7 @@ pub const ROW: usize = 20;
 pub const HEAD: usize = 24;
 
 pub fn dissolve(table: &[u8], cells: &[u8], out: &mut [u8], mode: u32, slots: u32, places: u32) -> u64 {
-    result((|| {
+    answer((|| {
         let table = decode_table(table)?;
         let cells = decode_cells(cells)?;
         let (slots, places) = capacities(slots, places)?;
@@ -29,7 +22,7 @@ pub fn dissolve(table: &[u8], cells: &[u8], out: &mut [u8], mode: u32, slots: u3
 }
 
 pub fn standing(table: &[u8], state: &mut [u8], out: &mut [u8], slots: u32, places: u32, call: u32, value: u64) -> u64 {
-    result((|| {
+    answer((|| {
         let table = decode_table(table)?;
         let (slots, places) = capacities(slots, places)?;
         let Some(mut memory) = Memory::decode(state, table.rows(), slots, places) else {
@@ -44,14 +37,6 @@ pub fn standing(table: &[u8], state: &mut [u8], out: &mut [u8], slots: u32, plac
         state.copy_from_slice(&memory.encode());
         Ok(())
     })())
-}
-
-/// 0 when accepted, else number · 2^32 + index.
-fn result(verdict: Verdict) -> u64 {
-    match verdict {
-        Ok(()) => 0,
-        Err(Refusal { number, index }) => u64::from(number) << 32 | index as u64,
-    }
 }
 
 fn capacities(slots: u32, places: u32) -> Verdict<(usize, usize)> {
@@ -130,13 +115,13 @@ pub fn encode(read: &ReadOut) -> Vec<u8> {
     for number in [2, polygons.len(), rings.len(), edges] {
         put(&mut bytes, number);
     }
-    bytes.extend(area_bits(rings[0]).to_le_bytes());
+    bytes.extend(rings[0].area_bits().to_le_bytes());
     let mut start = 0;
     for ring in &rings {
         put(&mut bytes, start);
         put(&mut bytes, ring.rows.len());
         put(&mut bytes, ring.group);
-        bytes.extend(area_bits(ring).to_le_bytes());
+        bytes.extend(ring.area_bits().to_le_bytes());
         start += ring.rows.len();
     }
     rings.iter().flat_map(|ring| &ring.rows).for_each(|row| put(&mut bytes, *row));
@@ -145,11 +130,6 @@ pub fn encode(read: &ReadOut) -> Vec<u8> {
 
 fn put(bytes: &mut Vec<u8>, number: usize) {
     bytes.extend((number as u32).to_le_bytes());
-}
-
-/// Every NaN is written alike.
-fn area_bits(ring: &Ring) -> u64 {
-    if ring.area.is_nan() { 0x7FF8_0000_0000_0000 } else { ring.area.to_bits() }
 }
 
 fn word(bytes: &[u8]) -> u32 {

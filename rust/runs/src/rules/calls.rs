@@ -1,5 +1,5 @@
 //! The four calls, each with its refusals in their order. Lengths, capacities and modes (refusal 10) are tested where numbers come in, in
-//! bytes.rs.
+//! bytes.rs and full.rs.
 use super::{
     Verdict,
     lists::{self, Kept},
@@ -12,7 +12,7 @@ use super::{
 
 pub fn open(table: &Table, memory: &mut Memory, kept: Kept) -> Verdict {
     table.check()?;
-    *memory = Memory::opened(kept as u32, memory.rows(), memory.slots(), memory.places());
+    memory.open(kept as u32);
     Ok(())
 }
 
@@ -32,13 +32,18 @@ pub fn read_out(table: &Table, memory: &Memory) -> Verdict<ReadOut> {
     Ok(rings::read(table, memory))
 }
 
-pub fn dissolve(table: &Table, kept: Kept, cells: &[u64], slots: usize, places: usize) -> Verdict<ReadOut> {
+/// Dissolve in the memory of a standing state. Refused by 5, 6 or 7 it leaves that memory newly opened; refused earlier, as it was.
+pub fn dissolve_in(table: &Table, memory: &mut Memory, kept: Kept, cells: &[u64]) -> Verdict<ReadOut> {
     table.check()?;
-    lists::check_list(kept, table.target(), places, cells)?;
-    let mut memory = Memory::opened(kept as u32, table.rows(), slots, places);
+    lists::check_list(kept, table.target(), memory.places(), cells)?;
+    memory.open(kept as u32);
     for (index, cell) in cells.iter().enumerate() {
-        let rows = pool::check_outline(table, &memory, *cell, index)?;
-        pool::take(table, &mut memory, *cell, &rows);
+        let rows = pool::check_outline(table, memory, *cell, index).inspect_err(|_| memory.open(kept as u32))?;
+        pool::take(table, memory, *cell, &rows);
     }
-    Ok(rings::read(table, &memory))
+    Ok(rings::read(table, memory))
+}
+
+pub fn dissolve(table: &Table, kept: Kept, cells: &[u64], slots: usize, places: usize) -> Verdict<ReadOut> {
+    dissolve_in(table, &mut Memory::opened(kept as u32, table.rows(), slots, places), kept, cells)
 }

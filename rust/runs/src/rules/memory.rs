@@ -36,6 +36,11 @@ impl Memory {
         }
     }
 
+    /// Newly opened, whatever it held.
+    pub fn open(&mut self, mode: u32) {
+        *self = Self::opened(mode, self.rows(), self.slots(), self.places());
+    }
+
     pub fn places(&self) -> usize {
         self.cells.len()
     }

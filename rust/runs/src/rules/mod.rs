@@ -8,6 +8,7 @@ pub mod calls;
 pub mod cells;
 #[cfg(test)]
 mod examples;
+pub mod full;
 pub mod lists;
 pub mod memory;
 pub mod pool;
@@ -32,4 +33,12 @@ pub fn refuse<T>(number: u32, index: usize) -> Verdict<T> {
 /// Refused with `number` where there is an index to name.
 pub fn refuse_any(number: u32, found: Option<usize>) -> Verdict {
     found.map_or(Ok(()), |index| refuse(number, index))
+}
+
+/// 0 when carried out, else number · 2^32 + index.
+pub fn answer(verdict: Verdict) -> u64 {
+    match verdict {
+        Ok(()) => 0,
+        Err(Refusal { number, index }) => u64::from(number) << 32 | index as u64,
+    }
 }

@@ -15,6 +15,13 @@ pub struct Ring {
     pub area: f64,
 }
 
+impl Ring {
+    /// Every NaN is written alike.
+    pub fn area_bits(&self) -> u64 {
+        if self.area.is_nan() { 0x7FF8_0000_0000_0000 } else { self.area.to_bits() }
+    }
+}
+
 #[derive(Clone, Debug)]
 pub enum ReadOut {
     Nothing,

@@ -2,6 +2,7 @@
 mod boundary;
 mod damage;
 mod dissolve;
+mod full;
 pub mod odd;
 mod order;
 mod pool;
@@ -32,7 +33,7 @@ pub struct Context<'a> {
 
 type Section = fn(&mut Context, &mut Report) -> Result<(), String>;
 
-pub const SECTIONS: [(&str, Section); 9] = [
+pub const SECTIONS: [(&str, Section); 10] = [
     ("walk", walk::run),
     ("short", short::run),
     ("dissolve", dissolve::run),
@@ -42,6 +43,7 @@ pub const SECTIONS: [(&str, Section); 9] = [
     ("damage", damage::run),
     ("odd", odd::run),
     ("pool", pool::run),
+    ("full", full::run),
 ];
 
 /// As many slots and places as the byte entry points take.

@@ -1,72 +1,143 @@
-//! The library's calls at full size, on slices of numbers: slices first, numbers last, and an answer that is below 2^32 when accepted.
-use crate::rules::{memory::Memory, table::Table};
+//! The library's calls at full size, on slices of numbers. include/zone_outliner.h documents each.
+use crate::rules::{full::Outputs, memory::Memory, table::Table};
+use std::marker::PhantomData;
 
-type Words = *mut u32;
+/// A slice as the library takes it: a pointer, then a length in elements.
+#[repr(C)]
+struct Shared<'a, T> {
+    start: *const T,
+    length: usize,
+    lent: PhantomData<&'a [T]>,
+}
 
-// A slice is two parameters, a pointer and a length in elements. The eleven slices of a state come in the order of `Memory`.
+/// The same of a slice that the library may write.
+#[repr(C)]
+struct Exclusive<'a, T> {
+    start: *mut T,
+    length: usize,
+    lent: PhantomData<&'a mut [T]>,
+}
+
+fn shared<T>(slice: &[T]) -> Shared<'_, T> {
+    Shared { start: slice.as_ptr(), length: slice.len(), lent: PhantomData }
+}
+
+fn exclusive<T>(slice: &mut [T]) -> Exclusive<'_, T> {
+    Exclusive { start: slice.as_mut_ptr(), length: slice.len(), lent: PhantomData }
+}
+
+// Slices come first and numbers last, so that none starts as the sixth word of a call.
 unsafe extern "C" {
     fn zo_open(
-        edges: *const u64, edges_length: usize, reverse: *const u32, reverse_length: usize, area: *const f64, area_length: usize,
-        head: Words, head_length: usize, cells: *mut u64, cells_length: usize, parent: Words, parent_length: usize,
-        rank: Words, rank_length: usize, cell_mark: Words, cell_mark_length: usize, slot_row: Words, slot_row_length: usize,
-        slot_cell: Words, slot_cell_length: usize, prev: Words, prev_length: usize, next: Words, next_length: usize,
-        row_slot: Words, row_slot_length: usize, row_mark: Words, row_mark_length: usize, mode: usize,
+        edges: Shared<u64>,
+        reverse: Shared<u32>,
+        area: Shared<f64>,
+        head: Exclusive<u32>,
+        cells: Exclusive<u64>,
+        parent: Exclusive<u32>,
+        rank: Exclusive<u32>,
+        cell_mark: Exclusive<u32>,
+        slot_row: Exclusive<u32>,
+        slot_cell: Exclusive<u32>,
+        prev: Exclusive<u32>,
+        next: Exclusive<u32>,
+        row_slot: Exclusive<u32>,
+        row_mark: Exclusive<u32>,
+        mode: u64,
     ) -> u64;
     fn zo_offer(
-        edges: *const u64, edges_length: usize, reverse: *const u32, reverse_length: usize, area: *const f64, area_length: usize,
-        head: Words, head_length: usize, cells: *mut u64, cells_length: usize, parent: Words, parent_length: usize,
-        rank: Words, rank_length: usize, cell_mark: Words, cell_mark_length: usize, slot_row: Words, slot_row_length: usize,
-        slot_cell: Words, slot_cell_length: usize, prev: Words, prev_length: usize, next: Words, next_length: usize,
-        row_slot: Words, row_slot_length: usize, row_mark: Words, row_mark_length: usize, cell: u64,
+        edges: Shared<u64>,
+        reverse: Shared<u32>,
+        area: Shared<f64>,
+        head: Exclusive<u32>,
+        cells: Exclusive<u64>,
+        parent: Exclusive<u32>,
+        rank: Exclusive<u32>,
+        cell_mark: Exclusive<u32>,
+        slot_row: Exclusive<u32>,
+        slot_cell: Exclusive<u32>,
+        prev: Exclusive<u32>,
+        next: Exclusive<u32>,
+        row_slot: Exclusive<u32>,
+        row_mark: Exclusive<u32>,
+        cell: u64,
+    ) -> u64;
+    fn zo_read_out(
+        edges: Shared<u64>,
+        reverse: Shared<u32>,
+        area: Shared<f64>,
+        head: Shared<u32>,
+        cells: Shared<u64>,
+        parent: Shared<u32>,
+        rank: Shared<u32>,
+        cell_mark: Exclusive<u32>,
+        slot_row: Shared<u32>,
+        slot_cell: Shared<u32>,
+        prev: Shared<u32>,
+        next: Shared<u32>,
+        row_slot: Shared<u32>,
+        row_mark: Exclusive<u32>,
+        start: Exclusive<u32>,
+        size: Exclusive<u32>,
+        group: Exclusive<u32>,
+        ring_area: Exclusive<f64>,
+        ring_edges: Exclusive<u32>,
+        summary: Exclusive<u64>,
     ) -> u64;
     fn zo_dissolve(
-        edges: *const u64, edges_length: usize, reverse: *const u32, reverse_length: usize, area: *const f64, area_length: usize,
-        head: Words, head_length: usize, cells: *mut u64, cells_length: usize, parent: Words, parent_length: usize,
-        rank: Words, rank_length: usize, cell_mark: Words, cell_mark_length: usize, slot_row: Words, slot_row_length: usize,
-        slot_cell: Words, slot_cell_length: usize, prev: Words, prev_length: usize, next: Words, next_length: usize,
-        row_slot: Words, row_slot_length: usize, row_mark: Words, row_mark_length: usize,
-        list: *const u64, list_length: usize, start: Words, start_length: usize, size: Words, size_length: usize,
-        group: Words, group_length: usize, ring_area: *mut f64, ring_area_length: usize, ring_edges: Words, ring_edges_length: usize,
-        mode: usize,
+        edges: Shared<u64>,
+        reverse: Shared<u32>,
+        area: Shared<f64>,
+        head: Exclusive<u32>,
+        cells: Exclusive<u64>,
+        parent: Exclusive<u32>,
+        rank: Exclusive<u32>,
+        cell_mark: Exclusive<u32>,
+        slot_row: Exclusive<u32>,
+        slot_cell: Exclusive<u32>,
+        prev: Exclusive<u32>,
+        next: Exclusive<u32>,
+        row_slot: Exclusive<u32>,
+        row_mark: Exclusive<u32>,
+        list: Shared<u64>,
+        start: Exclusive<u32>,
+        size: Exclusive<u32>,
+        group: Exclusive<u32>,
+        ring_area: Exclusive<f64>,
+        ring_edges: Exclusive<u32>,
+        summary: Exclusive<u64>,
+        mode: u64,
     ) -> u64;
 }
 
-/// Lent outputs, as long as the table has rows.
-pub struct Outputs {
-    start: Vec<u32>,
-    size: Vec<u32>,
-    group: Vec<u32>,
-    area: Vec<f64>,
-    edges: Vec<u32>,
-}
-
-impl Outputs {
-    pub fn new(rows: usize) -> Self {
-        let words = vec![0; rows];
-        Self { start: words.clone(), size: words.clone(), group: words.clone(), area: vec![0.; rows], edges: words }
-    }
-}
-
-/// `$call` on a table and a state, with what comes after them.
+/// `$call` on a table and a state that may be written, with what comes after them.
 macro_rules! call {
     ($call:ident, $table:expr, $memory:expr $(, $more:expr)*) => {{
         let (t, m) = ($table, $memory);
-        // SAFETY: each pointer comes with the length of the vector it is taken from; what is written is borrowed for it.
+        // SAFETY: each pointer comes with the length of the vector that it is taken from, and what is written is borrowed for it alone.
         unsafe {
             $call(
-                t.edges.as_ptr(), t.edges.len(), t.reverse.as_ptr(), t.reverse.len(), t.area.as_ptr(), t.area.len(),
-                m.head.as_mut_ptr(), m.head.len(), m.cells.as_mut_ptr(), m.cells.len(), m.parent.as_mut_ptr(), m.parent.len(),
-                m.rank.as_mut_ptr(), m.rank.len(), m.cell_mark.as_mut_ptr(), m.cell_mark.len(),
-                m.slot_row.as_mut_ptr(), m.slot_row.len(), m.slot_cell.as_mut_ptr(), m.slot_cell.len(),
-                m.prev.as_mut_ptr(), m.prev.len(), m.next.as_mut_ptr(), m.next.len(),
-                m.row_slot.as_mut_ptr(), m.row_slot.len(), m.row_mark.as_mut_ptr(), m.row_mark.len(),
+                shared(&t.edges),
+                shared(&t.reverse),
+                shared(&t.area),
+                exclusive(&mut m.head),
+                exclusive(&mut m.cells),
+                exclusive(&mut m.parent),
+                exclusive(&mut m.rank),
+                exclusive(&mut m.cell_mark),
+                exclusive(&mut m.slot_row),
+                exclusive(&mut m.slot_cell),
+                exclusive(&mut m.prev),
+                exclusive(&mut m.next),
+                exclusive(&mut m.row_slot),
+                exclusive(&mut m.row_mark),
                 $($more),*
             )
         }
     }};
 }
 
-pub fn open(table: &Table, memory: &mut Memory, mode: usize) -> u64 {
+pub fn open(table: &Table, memory: &mut Memory, mode: u64) -> u64 {
     call!(zo_open, table, memory, mode)
 }
 
@@ -74,10 +145,47 @@ pub fn offer(table: &Table, memory: &mut Memory, cell: u64) -> u64 {
     call!(zo_offer, table, memory, cell)
 }
 
-pub fn dissolve(table: &Table, memory: &mut Memory, list: &[u64], out: &mut Outputs, mode: usize) -> u64 {
+pub fn dissolve(table: &Table, memory: &mut Memory, list: &[u64], out: &mut Outputs, mode: u64) -> u64 {
     call!(
-        zo_dissolve, table, memory, list.as_ptr(), list.len(), out.start.as_mut_ptr(), out.start.len(), out.size.as_mut_ptr(),
-        out.size.len(), out.group.as_mut_ptr(), out.group.len(), out.area.as_mut_ptr(), out.area.len(), out.edges.as_mut_ptr(),
-        out.edges.len(), mode
+        zo_dissolve,
+        table,
+        memory,
+        shared(list),
+        exclusive(&mut out.start),
+        exclusive(&mut out.size),
+        exclusive(&mut out.group),
+        exclusive(&mut out.area),
+        exclusive(&mut out.edges),
+        exclusive(&mut out.summary),
+        mode
     )
+}
+
+pub fn read_out(table: &Table, memory: &mut Memory, out: &mut Outputs) -> u64 {
+    let (t, m) = (table, memory);
+    // SAFETY: as above; of the state only the marks are written.
+    unsafe {
+        zo_read_out(
+            shared(&t.edges),
+            shared(&t.reverse),
+            shared(&t.area),
+            shared(&m.head),
+            shared(&m.cells),
+            shared(&m.parent),
+            shared(&m.rank),
+            exclusive(&mut m.cell_mark),
+            shared(&m.slot_row),
+            shared(&m.slot_cell),
+            shared(&m.prev),
+            shared(&m.next),
+            shared(&m.row_slot),
+            exclusive(&mut m.row_mark),
+            exclusive(&mut out.start),
+            exclusive(&mut out.size),
+            exclusive(&mut out.group),
+            exclusive(&mut out.area),
+            exclusive(&mut out.edges),
+            exclusive(&mut out.summary),
+        )
+    }
 }

@@ -1,8 +1,6 @@
-//! The library under test, behind its two byte entry points; `exports` has its calls at full size, for the benchmark. All that is unsafe in
-//! the runs is in this module.
+//! The library under test: its two byte entry points, and in `exports` its calls at full size.
 
 #[cfg(exports)]
-#[rustfmt::skip]
 pub mod exports;
 
 /// Whether the static library was there when this was built.
@@ -66,3 +64,5 @@ pub use linked::{dissolve, standing};
 /// Without the library, the rules stand in for it, so that a run still compares them with the oracle.
 #[cfg(not(subject))]
 pub use crate::rules::bytes::{dissolve, standing};
+#[cfg(not(exports))]
+pub use crate::rules::full as exports;

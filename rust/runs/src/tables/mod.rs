@@ -2,6 +2,7 @@
 pub mod damaged;
 pub mod odd;
 pub mod real;
+pub mod regions;
 pub mod torus;
 
 use crate::{

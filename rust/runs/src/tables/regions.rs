@@ -1,0 +1,57 @@
+//! Cells of a large table: those around one, some that don't touch, some of several resolutions.
+use super::Given;
+use crate::{
+    random::Random,
+    rules::cells::{lies_under, owner, resolution},
+};
+use std::collections::BTreeSet;
+
+/// The cells around one in the middle, nearest first.
+pub fn disk(given: &Given, count: usize) -> Vec<u64> {
+    let known = given.cells.iter().copied().collect::<BTreeSet<_>>();
+    let mut cells = vec![given.cells[given.cells.len() / 2]];
+    let mut reached = cells.iter().copied().collect::<BTreeSet<_>>();
+    let mut next = 0;
+    while cells.len() < count && next < cells.len() {
+        for cell in neighbours(given, cells[next]) {
+            if known.contains(&cell) && reached.insert(cell) {
+                cells.push(cell);
+            }
+        }
+        next += 1;
+    }
+    cells.truncate(count);
+    cells
+}
+
+/// Cells of the list of which no two touch.
+pub fn scattered(given: &Given, list: &[u64]) -> Vec<u64> {
+    let mut touched = BTreeSet::new();
+    let mut cells = Vec::new();
+    for cell in list {
+        if !touched.contains(cell) {
+            cells.push(*cell);
+            touched.extend(neighbours(given, *cell));
+        }
+    }
+    cells
+}
+
+/// Cells of the table's resolution and of the two above it.
+pub fn mixed(given: &Given, count: usize, random: &mut Random) -> Vec<u64> {
+    let near = |cell: &u64| resolution(*cell) + 2 >= given.table.target();
+    let near = given.coarser.iter().copied().filter(near).collect::<Vec<_>>();
+    let mut cells = Vec::<u64>::new();
+    while cells.len() < count {
+        let cell = if random.one_in(2) { random.of(&near) } else { random.of(&given.cells) };
+        if cells.iter().all(|other| *other != cell && !lies_under(*other, cell) && !lies_under(cell, *other)) {
+            cells.push(cell);
+        }
+    }
+    cells
+}
+
+fn neighbours(given: &Given, cell: u64) -> Vec<u64> {
+    let rows = given.table.outline(cell).into_iter().flatten();
+    rows.map(|row| owner(given.table.edges[given.table.reverse_of(row)])).collect()
+}

@@ -1,9 +1,9 @@
 -- Placing an outline, by the lists that it changes: slot rows, slot cells, row slots, and the links.
 -- Assumes nothing.
 use mathlib.Core.Path.{_≡_}
-use mathlib.Core.Bool.{Bool, not}
+use mathlib.Core.Bool.{Bool, true, not}
 use mathlib.Core.List.{List, map}
-use Prim.Native.Nat.{ℕ, suc, _-_, _≤_, _<_, _^_}
+use Prim.Native.Nat.{ℕ, suc, _+_, _-_, _≤_, _<_, _^_}
 use lib.Dec.{eqb}
 use lib.ListN.{length, take, replicate}
 use Rattle.scope.specs.Lists.{at, from, below, rotate, putAll}
@@ -21,6 +21,10 @@ slotsIn slotRow o = take (length o) (freeIn slotRow)
 -- the lowest free slot from i on, or the number of slots
 abbrev pub freeFrom : List ℕ → ℕ → ℕ
 freeFrom slotRow i = from (usedIn slotRow) (length slotRow - i) i
+
+-- the answer true says that the lowest free slot from i on is the same from i + n on
+pub record PassedOver (b : Bool) (slotRow : List ℕ) (i n : ℕ) : Type 0 where
+  pub shown : b ≡ true → freeFrom slotRow (i + n) ≡ freeFrom slotRow i
 
 -- The outline's rows are in the table, and enough slots are free. The rest are sizes that fit.
 pub record PlaceAsks (slotRow slotCell rowSlot o : List ℕ) (n : ℕ) : Type 0 where

@@ -3,15 +3,52 @@ use slices::get32;
 use slices::put32;
 use union_find::add;
 ghost use mathlib.Core.Path.{_≡_};
-ghost use Prim.Native.Nat.{_<_, _≤_};
+ghost use Prim.Native.Nat.{_+_, _<_, _≤_};
 ghost use lib.ListN.{length};
 ghost use Rattle.scope.specs.Lists.{at};
 ghost use Rattle.scope.proofs.Outlines.{onward};
-ghost use Rattle.arcs.specs.Place.{freeIn, freeFrom, PlaceAsks, PlacedRows, slotsAt, SlotAsks, LinkAsks, LinkedRows};
+ghost use Rattle.arcs.specs.Place.{freeIn, freeFrom, PassedOver, PlaceAsks, PlacedRows, slotsAt, SlotAsks, LinkAsks, LinkedRows};
 ghost use Rattle.arcs.specs.Taking.{HoldAsks, CellHeld, OutlineAsks, OutlinePlaced};
 
-// The lowest free slot from `start` on, or the pool's size where there is none.
-fn next_free(slot_row: &[u32], start: usize) -> usize
+// Two slots are used: a search may go on behind them. Eight at a time are few instructions.
+fn two_used(slot_row: &[u32], i: usize) -> bool
+    requires { ⌜ i + 2 ≤ length (now «slot_row») ⌝ }
+    ensures { λ b. ⌜ PassedOver b (now («slot_row» .entry)) i 2 ⌝ }
+{
+    (slot_row[i] != 0) & (slot_row[i + 1] != 0)
+}
+
+fn four_used(slot_row: &[u32], i: usize) -> bool
+    requires { ⌜ i + 4 ≤ length (now «slot_row») ⌝ }
+    ensures { λ b. ⌜ PassedOver b (now («slot_row» .entry)) i 4 ⌝ }
+{
+    two_used(slot_row, i) & two_used(slot_row, i + 2)
+}
+
+fn eight_used(slot_row: &[u32], i: usize) -> bool
+    requires { ⌜ i + 8 ≤ length (now «slot_row») ⌝ }
+    ensures { λ b. ⌜ PassedOver b (now («slot_row» .entry)) i 8 ⌝ }
+{
+    four_used(slot_row, i) & four_used(slot_row, i + 4)
+}
+
+// From `start` on, behind as many used slots as go by eights.
+fn skip_used(slot_row: &[u32], start: usize) -> usize
+    requires { ⌜ start ≤ length (now «slot_row») ⌝ }
+    ensures { λ r. ⌜ (r ≤ length (now («slot_row» .entry))) × (freeFrom (now («slot_row» .entry)) r ≡ freeFrom (now («slot_row» .entry)) start) ⌝ }
+{
+    let mut i = start;
+    while 8 <= slot_row.len() - i {
+        if !eight_used(slot_row, i) {
+            return i;
+        }
+        i += 8;
+    }
+    i
+}
+
+// The lowest free slot from `start` on, or the pool's size where there is none, one by one.
+fn step_to_free(slot_row: &[u32], start: usize) -> usize
     requires { ⌜ start ≤ length (now «slot_row») ⌝ }
     ensures { λ r. ⌜ r ≡ freeFrom (now («slot_row» .entry)) start ⌝ }
 {
@@ -23,6 +60,13 @@ fn next_free(slot_row: &[u32], start: usize) -> usize
         i += 1;
     }
     i
+}
+
+fn next_free(slot_row: &[u32], start: usize) -> usize
+    requires { ⌜ start ≤ length (now «slot_row») ⌝ }
+    ensures { λ r. ⌜ r ≡ freeFrom (now («slot_row» .entry)) start ⌝ }
+{
+    step_to_free(slot_row, skip_used(slot_row, start))
 }
 
 // Puts the rows of an outline into the lowest free slots, in their order. The search for a slot goes on

@@ -1,4 +1,4 @@
--- `arcs::place::next_free` meets its contract: from where the loop stands the lowest free slot is the one from its start.
+-- `arcs::place::step_to_free` meets its contract: from where the loop stands the lowest free slot is the one from its start.
 -- Assumes nothing.
 use mathlib.Core.Path.{_≡_, sym, _∙_}
 use Prim.Native.Nat.{_≤_, _-_}
@@ -6,8 +6,8 @@ use borrow.Author.Needs.{needs}
 use lib.ListN.{length}
 use Rattle.arcs.specs.Place.{freeFrom}
 use Rattle.arcs.proofs.Searching.{free-here, free-on, free-end}
-use Rattle.arcs.proofs.place.next_free.Statement.{statement}
-use Rattle.arcs.proofs.place.next_free.Tie as tie
+use Rattle.arcs.proofs.place.step_to_free.Statement.{statement}
+use Rattle.arcs.proofs.place.step_to_free.Tie as tie
 
 abbrev Inv-loop : tie.InvT-loop
 Inv-loop slot-row start i₀ i = (i ≤ length slot-row) × (freeFrom slot-row i ≡ freeFrom slot-row start)
@@ -44,8 +44,8 @@ returns-2 c =
     let L = c .before in
     sym (free-end (L .before .before .args .slot-row .now) (L .loop .i) (c .loop-test .left)) ∙ L .loop .inv .1
 
-pub next-free-spec : {M : Type 1} → statement M
-next-free-spec =
+pub step-to-free-spec : {M : Type 1} → statement M
+step-to-free-spec =
     tie.close
     (tie.spec
     Inv-loop

@@ -1,12 +1,14 @@
 -- Each export's promise determines its result and every lent slice: any two outcomes that it allows are equal.
 --     zo-open-determined, zo-offer-determined, zo-read-out-determined, zo-dissolve-determined
+--     zone-dissolve-determined, zone-standing-determined
 -- Assumes nothing.
 use Prim.Native.Nat.{ℕ}
 use mathlib.Core.Path.{_≡_, sym, _∙_, ap}
-use mathlib.Core.List.{List}
+use mathlib.Core.List.{List, []}
 use Rattle.scope.specs.Table.{Table}
 use Rattle.scope.specs.Memory.{Memory, Output}
 use Rattle.scope.specs.Calls.{opening, offering}
+use Rattle.scope.specs.Bytes.{Left, zoneDissolving, zoneStanding}
 use Rattle.host.specs.Full.{Called, called, Told, readingTold, dissolvingTold}
 
 calls : (o : Called) {r s : ℕ} {m n : Memory} → record { result = r; left = m } ≡ o → record { result = s; left = n } ≡ o → (r ≡ s) × (m ≡ n)
@@ -36,3 +38,17 @@ module _ (t : Table) (m : Memory) where
       → record { result = r; left = m₁; out = o₁; summary = l₁ } ≡ dissolvingTold t m mode cs o summary → record { result = s; left = m₂; out = o₂; summary = l₂ } ≡ dissolvingTold t m mode cs o summary
       → (r ≡ s) × (m₁ ≡ m₂) × (o₁ ≡ o₂) × (l₁ ≡ l₂)
   zo-dissolve-determined mode cs o summary = tellings (dissolvingTold t m mode cs o summary)
+
+-- ---- on bytes
+
+lefts : (l : Left) {r s : ℕ} {a b x y : List ℕ} → record { result = r; state = a; out = x } ≡ l → record { result = s; state = b; out = y } ≡ l → (r ≡ s) × (a ≡ b) × (x ≡ y)
+lefts l p q = let e = p ∙ sym q in (ap (λ (k : Left). k .result) e, ap (λ (k : Left). k .state) e, ap (λ (k : Left). k .out) e)
+
+pub zone-dissolve-determined : (table cells out : List ℕ) (mode slots places : ℕ) {r s : ℕ} {x y : List ℕ} → record { result = r; state = []; out = x } ≡ zoneDissolving table cells out mode slots places
+    → record { result = s; state = []; out = y } ≡ zoneDissolving table cells out mode slots places → (r ≡ s) × (x ≡ y)
+zone-dissolve-determined table cells out mode slots places p q = let e = lefts (zoneDissolving table cells out mode slots places) p q in (e .0, e .2)
+
+pub zone-standing-determined : (table state out : List ℕ) (slots places call value : ℕ) {r s : ℕ} {a b x y : List ℕ}
+    → record { result = r; state = a; out = x } ≡ zoneStanding table state out slots places call value → record { result = s; state = b; out = y } ≡ zoneStanding table state out slots places call value
+    → (r ≡ s) × (a ≡ b) × (x ≡ y)
+zone-standing-determined table state out slots places call value = lefts (zoneStanding table state out slots places call value)

@@ -1,0 +1,2 @@
+-- How many bytes of a file came.
+pub mod Files

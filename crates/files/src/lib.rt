@@ -1,0 +1,39 @@
+// Files read whole into lent bytes, for the programs. No contract can say what a file holds.
+ghost use Rattle.io.specs.Counts.{Counts};
+ghost use Rattle.files.specs.Files.{countOf};
+
+// So many bytes; none, since the file cannot be opened or read; or more than there is room for.
+pub enum FileRead {
+    Bytes(usize),
+    Unreadable,
+    TooLong,
+}
+
+// The bytes of an open file, whose end is told by one read more.
+fn read_open(fd: i32, bytes: &mut [u8]) -> FileRead
+    ensures { λ r. ⌜ Counts (countOf r) (now (bytes .exit)) ⌝ }
+{
+    let count = io::read_full(fd, bytes);
+    let mut more = [0u8; 1];
+    let next = libc::read(fd, &mut more);
+    if next < 0 {
+        return FileRead::Unreadable;
+    }
+    if 0 < next {
+        return FileRead::TooLong;
+    }
+    FileRead::Bytes(count)
+}
+
+// The bytes of the file at `path`, into the start of `bytes`.
+pub fn read_file(path: &[u8], bytes: &mut [u8]) -> FileRead
+    ensures { λ r. ⌜ Counts (countOf r) (now (bytes .exit)) ⌝ }
+{
+    let fd = os::open_read(path);
+    if fd < 0 {
+        return FileRead::Unreadable;
+    }
+    let read = read_open(fd, bytes);
+    libc::close(fd);
+    read
+}

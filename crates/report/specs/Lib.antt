@@ -2,3 +2,5 @@
 pub mod Notes
 pub mod Outlines
 pub mod Refusals
+pub mod Faults
+pub mod Answers

@@ -6,7 +6,7 @@ ghost use lib.ListN.{length};
 ghost use Rattle.text.specs.Text.{Wrote};
 ghost use Rattle.report.specs.Refusals.{refusalWords, refusalPlace, refusalText};
 
-fn put_words(out: &mut [u8], at: usize, number: usize) -> usize
+pub fn put_words(out: &mut [u8], at: usize, number: usize) -> usize
     requires { ⌜ at ≤ length (now out) ⌝ }
     ensures { λ r. ⌜ Wrote (now (out .entry)) at (now (out .exit)) r (refusalWords number) ⌝ }
 {

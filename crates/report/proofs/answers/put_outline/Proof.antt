@@ -1,0 +1,104 @@
+-- `report::answers/put_outline` meets its contract. By cases.
+-- Assumes nothing.
+use borrow.Author.Needs.{needs}
+use Rattle.text.proofs.Writing.{wrote-more}
+use Rattle.report.specs.Answers.{outlineText}
+use Rattle.report.proofs.answers.put_outline.Statement.{statement}
+use Rattle.report.proofs.answers.put_outline.Tie as tie
+
+enum-told : tie.Need-enum-told
+enum-told c = search needs
+
+slice-aggregate-put-bytes : tie.Need-slice-aggregate-put-bytes
+slice-aggregate-put-bytes c = search needs
+
+put-bytes-requires : tie.Need-put-bytes-requires
+put-bytes-requires c κs = search needs
+
+enum-told-2 : tie.Need-enum-told-2
+enum-told-2 c = search needs
+
+slice-aggregate-put-noted : tie.Need-slice-aggregate-put-noted
+slice-aggregate-put-noted c = search needs
+
+slice-aggregate-put-noted-2 : tie.Need-slice-aggregate-put-noted-2
+slice-aggregate-put-noted-2 c = search needs
+
+put-noted-requires : tie.Need-put-noted-requires
+put-noted-requires c κs = search needs
+
+enum-known-answer : tie.Need-enum-known-answer
+enum-known-answer c = search needs
+
+standing-requires : tie.Need-standing-requires
+standing-requires c κs = search needs
+
+put-summary-requires : tie.Need-put-summary-requires
+put-summary-requires c κs = search needs
+
+put-rings-requires : tie.Need-put-rings-requires
+put-rings-requires c κs = search needs
+
+enum-known-answer-2 : tie.Need-enum-known-answer-2
+enum-known-answer-2 c = search needs
+
+line-at-requires : tie.Need-line-at-requires
+line-at-requires c κs = search needs
+
+put-refusal-requires : tie.Need-put-refusal-requires
+put-refusal-requires c κs = search needs
+
+same-length : tie.Need-same-length
+same-length c = search needs
+
+returns : tie.Need-returns
+unfolding outlineText
+returns c = rw (c .before .before .before .before .before .enum-told .given .1) (c .before .before .put-bytes .ensures)
+
+same-length-2 : tie.Need-same-length-2
+same-length-2 c = search needs
+
+returns-2 : tie.Need-returns-2
+unfolding outlineText
+returns-2 c = rw (c .before .before .before .before .before .before .enum-told2 .given .1) (c .before .before .put-noted .ensures)
+
+same-length-3 : tie.Need-same-length-3
+same-length-3 c = search needs
+
+returns-3 : tie.Need-returns-3
+unfolding outlineText
+returns-3 c = rw (c .before .before .before .before .before .before .before .before .before .before .answer .given .1, ← c .before .before .before .before .before .before .before .before .standing .ensures) (wrote-more (c .before .before .before .before .before .before .put-summary .ensures) (c .before .before .put-rings .ensures))
+
+same-length-4 : tie.Need-same-length-4
+same-length-4 c = search needs
+
+returns-4 : tie.Need-returns-4
+unfolding outlineText
+returns-4 c = rw (c .before .before .before .before .before .before .answer2 .given .1, ← c .before .before .before .line-at .ensures) (c .before .before .put-refusal .ensures)
+
+pub put-outline-spec : {M : Type 1} → statement M
+put-outline-spec =
+    tie.close
+    (tie.spec
+    enum-told
+    slice-aggregate-put-bytes
+    put-bytes-requires
+    enum-told-2
+    slice-aggregate-put-noted
+    slice-aggregate-put-noted-2
+    put-noted-requires
+    enum-known-answer
+    standing-requires
+    put-summary-requires
+    put-rings-requires
+    enum-known-answer-2
+    line-at-requires
+    put-refusal-requires
+    same-length
+    returns
+    same-length-2
+    returns-2
+    same-length-3
+    returns-3
+    same-length-4
+    returns-4)

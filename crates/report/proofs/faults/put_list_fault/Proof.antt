@@ -1,0 +1,103 @@
+-- `report::faults/put_list_fault` meets its contract. By cases.
+-- Assumes nothing.
+use borrow.Author.Needs.{needs}
+use Rattle.text.proofs.Writing.{wrote-none, wrote-more}
+use Rattle.report.specs.Faults.{listFaultText}
+use Rattle.report.proofs.faults.put_list_fault.Statement.{statement}
+use Rattle.report.proofs.faults.put_list_fault.Tie as tie
+
+enum-told : tie.Need-enum-told
+enum-told c = search needs
+
+enum-known-ending : tie.Need-enum-known-ending
+enum-known-ending c = search needs
+
+put-bytes-requires : tie.Need-put-bytes-requires
+put-bytes-requires c κs = search needs
+
+slice-aggregate-put-noted : tie.Need-slice-aggregate-put-noted
+slice-aggregate-put-noted c = search needs
+
+slice-aggregate-put-noted-2 : tie.Need-slice-aggregate-put-noted-2
+slice-aggregate-put-noted-2 c = search needs
+
+put-noted-requires : tie.Need-put-noted-requires
+put-noted-requires c κs = search needs
+
+slice-aggregate-put-noted-3 : tie.Need-slice-aggregate-put-noted-3
+slice-aggregate-put-noted-3 c = search needs
+
+slice-aggregate-put-noted-4 : tie.Need-slice-aggregate-put-noted-4
+slice-aggregate-put-noted-4 c = search needs
+
+put-noted-requires-2 : tie.Need-put-noted-requires-2
+put-noted-requires-2 c κs = search needs
+
+enum-known-ending-2 : tie.Need-enum-known-ending-2
+enum-known-ending-2 c = search needs
+
+put-bytes-requires-2 : tie.Need-put-bytes-requires-2
+put-bytes-requires-2 c κs = search needs
+
+slice-aggregate-put-noted-5 : tie.Need-slice-aggregate-put-noted-5
+slice-aggregate-put-noted-5 c = search needs
+
+slice-aggregate-put-noted-6 : tie.Need-slice-aggregate-put-noted-6
+slice-aggregate-put-noted-6 c = search needs
+
+put-noted-requires-3 : tie.Need-put-noted-requires-3
+put-noted-requires-3 c κs = search needs
+
+slice-aggregate-put-noted-7 : tie.Need-slice-aggregate-put-noted-7
+slice-aggregate-put-noted-7 c = search needs
+
+slice-aggregate-put-noted-8 : tie.Need-slice-aggregate-put-noted-8
+slice-aggregate-put-noted-8 c = search needs
+
+put-noted-requires-4 : tie.Need-put-noted-requires-4
+put-noted-requires-4 c κs = search needs
+
+returns : tie.Need-returns
+unfolding listFaultText
+returns c = rw (c .enum-told .given .1) (wrote-none _ _ (c .before .before .before .before .pre))
+
+same-length : tie.Need-same-length
+same-length c = search needs
+
+returns-2 : tie.Need-returns-2
+unfolding listFaultText
+returns-2 c = rw (c .before .before .before .before .before .before .before .before .before .before .before .before .before .before .before .before .before .ending .given .1) (wrote-more (wrote-more (c .before .before .before .before .before .before .before .before .before .before .before .before .before .before .put-bytes .ensures) (c .before .before .before .before .before .before .before .before .put-noted .ensures)) (c .before .before .put-noted2 .ensures))
+
+same-length-2 : tie.Need-same-length-2
+same-length-2 c = search needs
+
+returns-3 : tie.Need-returns-3
+unfolding listFaultText
+returns-3 c = rw (c .before .before .before .before .before .before .before .before .before .before .before .before .before .before .before .before .before .ending2 .given .1) (wrote-more (wrote-more (c .before .before .before .before .before .before .before .before .before .before .before .before .before .before .put-bytes2 .ensures) (c .before .before .before .before .before .before .before .before .put-noted3 .ensures)) (c .before .before .put-noted4 .ensures))
+
+pub put-list-fault-spec : {M : Type 1} → statement M
+put-list-fault-spec =
+    tie.close
+    (tie.spec
+    enum-told
+    enum-known-ending
+    put-bytes-requires
+    slice-aggregate-put-noted
+    slice-aggregate-put-noted-2
+    put-noted-requires
+    slice-aggregate-put-noted-3
+    slice-aggregate-put-noted-4
+    put-noted-requires-2
+    enum-known-ending-2
+    put-bytes-requires-2
+    slice-aggregate-put-noted-5
+    slice-aggregate-put-noted-6
+    put-noted-requires-3
+    slice-aggregate-put-noted-7
+    slice-aggregate-put-noted-8
+    put-noted-requires-4
+    returns
+    same-length
+    returns-2
+    same-length-2
+    returns-3)

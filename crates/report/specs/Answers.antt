@@ -1,0 +1,30 @@
+-- What a call answered, as text: nothing, closed, an outline with its rings, or a refusal in words.
+-- Assumes nothing.
+use Prim.Native.Nat.{ℕ}
+use mathlib.Core.Bool.{Bool}
+use mathlib.Core.List.{List, _++_}
+use lib.Ieee.{Float}
+use lib.ListN.{length}
+use Rattle.scope.specs.declared.ReadOut.{ReadOut}
+use Rattle.scope.specs.declared.ReadOut.the-variants.{Nothing, Closed, Outline, Refused}
+use Rattle.scope.specs.Lists.{at}
+use Rattle.text.specs.Text.{ascii}
+use Rattle.report.specs.Notes.{noted}
+use Rattle.report.specs.Outlines.{standing, summaryText, ringsText}
+use Rattle.report.specs.Refusals.{refusalText}
+
+abbrev pub nothingText : List ℕ
+nothingText = ascii "nothing: the list has no cells\n"
+
+abbrev pub closedText : ℕ → List ℕ
+closedText cells = noted (ascii "closed: ") cells (ascii " cells, and no edge stands\n")
+
+-- The whole report of `outline`: the names of the two files; the lines of the cells; the table's edges; the answer and what was written.
+unfoldable pub outlineText : List ℕ → List ℕ → List ℕ → List ℕ → Bool → ReadOut → List ℕ → List ℕ → List ℕ → List Float → List ℕ → List ℕ
+outlineText table list lines edges rows Nothing start size group area rowList = nothingText
+outlineText table list lines edges rows Closed start size group area rowList = closedText (length lines)
+outlineText table list lines edges rows (Outline polygons rings first) start size group area rowList =
+    summaryText (length edges) (length lines) polygons rings (standing start size rings)
+    ++ ringsText edges rows start size group area rowList rings
+outlineText table list lines edges rows (Refused number index) start size group area rowList =
+    refusalText table list number index (at lines index)

@@ -1,0 +1,30 @@
+-- Files that cannot be taken, in words: the file, the line or byte, and what is wrong there.
+-- Assumes nothing.
+use Prim.Native.Nat.{ℕ}
+use mathlib.Core.List.{List, [], _++_}
+use Rattle.text.specs.Text.{ascii}
+use Rattle.cell_text.specs.declared.Ending.{Ending}
+use Rattle.cell_text.specs.declared.Ending.the-variants as ending
+use Rattle.table_bytes.specs.declared.TableFile.{TableFile}
+use Rattle.table_bytes.specs.declared.TableFile.the-variants as file
+use Rattle.report.specs.Notes.{noted}
+
+abbrev pub unreadableText : List ℕ → List ℕ
+unreadableText name = name ++ ascii ": this file cannot be read\n"
+
+abbrev pub tooLongText : List ℕ → ℕ → List ℕ
+tooLongText name room = name ++ noted (ascii " byte ") room (ascii ": this file is too long\n")
+
+-- nothing where nothing is wrong
+unfoldable pub tableFaultText : List ℕ → ℕ → TableFile → List ℕ
+tableFaultText name room (file.Rows n) = []
+tableFaultText name room (file.CutOff place) = name ++ noted (ascii " byte ") place (ascii ": this row is cut off, a row has 20 bytes\n")
+tableFaultText name room file.TooMany = name ++ noted (ascii ": this table has more than ") room (ascii " rows\n")
+
+unfoldable pub listFaultText : List ℕ → ℕ → Ending → List ℕ
+listFaultText name room ending.Whole = []
+listFaultText name room (ending.Fault line place) =
+    name
+    ++ noted (ascii " line ") line (ascii "")
+    ++ noted (ascii ", byte ") place (ascii ": a cell is 1 to 16 hexadecimal digits, with or without 0x\n")
+listFaultText name room (ending.TooMany line) = name ++ noted (ascii " line ") line (ascii "") ++ noted (ascii ": there are more than ") room (ascii " cells\n")

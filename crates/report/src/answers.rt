@@ -1,0 +1,85 @@
+// What a call answered, as text.
+use crate::notes::put_noted;
+use crate::outlines::put_rings;
+use crate::outlines::put_summary;
+use crate::outlines::standing;
+use crate::refusals::put_refusal;
+use scope::ReadOut;
+use text::put_bytes;
+ghost use mathlib.Core.Path.{_≡_};
+ghost use Prim.Native.Nat.{_≤_};
+ghost use lib.ListN.{length};
+ghost use Rattle.scope.specs.Lists.{at};
+ghost use Rattle.text.specs.Text.{Wrote};
+ghost use Rattle.report.specs.Answers.{nothingText, closedText, outlineText};
+
+// The line of a cell, 0 past the end.
+fn line_at(lines: &[usize], index: usize) -> usize
+    ensures { λ r. ⌜ r ≡ at (now (lines .entry)) index ⌝ }
+{
+    if index < lines.len() { lines[index] } else { 0 }
+}
+
+// The whole report of an answer: what it counts and each ring, or why there is none.
+pub fn put_outline(
+    out: &mut [u8],
+    at: usize,
+    table: &[u8],
+    list: &[u8],
+    lines: &[usize],
+    edges: &[u64],
+    rows: bool,
+    answer: ReadOut,
+    start: &[u32],
+    size: &[u32],
+    group: &[u32],
+    area: &[f64],
+    row_list: &[u32],
+) -> usize
+    requires { ⌜ at ≤ length (now out) ⌝ }
+    ensures { λ r. ⌜ Wrote (now (out .entry)) at (now (out .exit)) r (outlineText (now (table .entry)) (now (list .entry)) (now (lines .entry)) (now (edges .entry)) rows answer (now (start .entry)) (now (size .entry)) (now (group .entry)) (now (area .entry)) (now («row_list» .entry))) ⌝ }
+{
+    match answer {
+        ReadOut::Nothing => put_bytes(out, at, b"nothing: the list has no cells\n"),
+        ReadOut::Closed => put_noted(
+            out,
+            at,
+            b"closed: ",
+            lines.len(),
+            b" cells, and no edge stands\n",
+        ),
+        ReadOut::Outline(polygons, rings, _) => {
+            let edge_count = standing(start, size, rings);
+            let counted = put_summary(
+                out,
+                at,
+                edges.len(),
+                lines.len(),
+                polygons,
+                rings,
+                edge_count,
+            );
+            put_rings(
+                out,
+                counted,
+                edges,
+                rows,
+                start,
+                size,
+                group,
+                area,
+                row_list,
+                rings,
+            )
+        }
+        ReadOut::Refused(number, index) => put_refusal(
+            out,
+            at,
+            table,
+            list,
+            number,
+            index,
+            line_at(lines, index),
+        ),
+    }
+}

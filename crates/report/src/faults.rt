@@ -1,0 +1,81 @@
+// Files that cannot be taken, in words.
+use crate::notes::put_noted;
+use cell_text::Ending;
+use table_bytes::TableFile;
+use text::put_bytes;
+ghost use Prim.Native.Nat.{_≤_};
+ghost use lib.ListN.{length};
+ghost use Rattle.text.specs.Text.{Wrote};
+ghost use Rattle.report.specs.Faults.{unreadableText, tooLongText, tableFaultText, listFaultText};
+
+pub fn put_unreadable(out: &mut [u8], at: usize, name: &[u8]) -> usize
+    requires { ⌜ at ≤ length (now out) ⌝ }
+    ensures { λ r. ⌜ Wrote (now (out .entry)) at (now (out .exit)) r (unreadableText (now (name .entry))) ⌝ }
+{
+    let named = put_bytes(out, at, name);
+    put_bytes(out, named, b": this file cannot be read\n")
+}
+
+pub fn put_too_long(out: &mut [u8], at: usize, name: &[u8], room: usize) -> usize
+    requires { ⌜ at ≤ length (now out) ⌝ }
+    ensures { λ r. ⌜ Wrote (now (out .entry)) at (now (out .exit)) r (tooLongText (now (name .entry)) room) ⌝ }
+{
+    let named = put_bytes(out, at, name);
+    put_noted(out, named, b" byte ", room, b": this file is too long\n")
+}
+
+// What is wrong with a table file, where something is.
+pub fn put_table_fault(
+    out: &mut [u8],
+    at: usize,
+    name: &[u8],
+    room: usize,
+    file: TableFile,
+) -> usize
+    requires { ⌜ at ≤ length (now out) ⌝ }
+    ensures { λ r. ⌜ Wrote (now (out .entry)) at (now (out .exit)) r (tableFaultText (now (name .entry)) room file) ⌝ }
+{
+    match file {
+        TableFile::Rows(_) => at,
+        TableFile::CutOff(place) => {
+            let named = put_bytes(out, at, name);
+            put_noted(
+                out,
+                named,
+                b" byte ",
+                place,
+                b": this row is cut off, a row has 20 bytes\n",
+            )
+        }
+        TableFile::TooMany => {
+            let named = put_bytes(out, at, name);
+            put_noted(out, named, b": this table has more than ", room, b" rows\n")
+        }
+    }
+}
+
+// What is wrong with a cell list, where something is.
+pub fn put_list_fault(out: &mut [u8], at: usize, name: &[u8], room: usize, ending: Ending) -> usize
+    requires { ⌜ at ≤ length (now out) ⌝ }
+    ensures { λ r. ⌜ Wrote (now (out .entry)) at (now (out .exit)) r (listFaultText (now (name .entry)) room ending) ⌝ }
+{
+    match ending {
+        Ending::Whole => at,
+        Ending::Fault(line, place) => {
+            let named = put_bytes(out, at, name);
+            let lined = put_noted(out, named, b" line ", line, b"");
+            put_noted(
+                out,
+                lined,
+                b", byte ",
+                place,
+                b": a cell is 1 to 16 hexadecimal digits, with or without 0x\n",
+            )
+        }
+        Ending::TooMany(line) => {
+            let named = put_bytes(out, at, name);
+            let lined = put_noted(out, named, b" line ", line, b"");
+            put_noted(out, lined, b": there are more than ", room, b" cells\n")
+        }
+    }
+}

@@ -13,7 +13,7 @@ use Rattle.scope.specs.Table.{Table, rowCount}
 use Rattle.scope.specs.Calls.{dissolving}
 use Rattle.scope.specs.Bytes.{rowsIn, u64At, tableIn, cellsIn, clearedOutput}
 use Rattle.scope.proofs.Below.{tabulate-length}
-use Rattle.solvent.proofs.Sizes.{Sized}
+use Rattle.taking.proofs.Sizes.{Sized}
 use Rattle.wire.specs.Sizes.{TableSized, StateRoom}
 
 pub room-kept : {rows slots places : ℕ} {b : List ℕ} {m m′ : Memory} → StateRoom rows slots places b m → Sized m m′ → StateRoom rows slots places b m′

@@ -1,23 +1,20 @@
 // The four calls over lent slices: open, offer, read out and dissolve. The Rust's `Solvent` and `ArcSet`.
 // Each takes any slices: what the definitions of `scope` say of the call is its answer and what it leaves.
-mod lengths;
-mod outline;
-mod read;
-mod take;
-mod verdicts;
-
+use admission::admit_verdict;
+use admission::lengths::both_agree;
+use admission::lengths::capacities_fit;
+use admission::lengths::three_agree;
+use admission::list_verdict;
+use admission::open_verdict;
+use admission::state_verdict;
+use answers::is_accepted;
+use answers::refusal;
 use arcs::Pool;
-use read::read_if;
-use read::work;
+use dissolving::work;
+use reading::read_if;
 use scope::ReadOut;
 use scope::Verdict;
-use take::take_one;
-use verdicts::admit_verdict;
-use verdicts::dissolve_verdict;
-use verdicts::is_accepted;
-use verdicts::open_verdict;
-use verdicts::read_verdict;
-use verdicts::refusal;
+use taking::take_all;
 ghost use mathlib.Core.Path.{_≡_};
 ghost use Rattle.scope.specs.Table.{table};
 ghost use Rattle.scope.specs.Memory.{memory, output};
@@ -44,23 +41,13 @@ pub fn open(
     ensures { λ r. ⌜ record { answer = r; left = memory (now (head .exit)) (now (cells .exit)) (now (parent .exit)) (now (rank .exit)) (now («cell_mark» .exit)) (now («slot_row» .exit)) (now («slot_cell» .exit)) (now (prev .exit)) (now (next .exit)) (now («row_slot» .exit)) (now («row_mark» .exit)) }
         ≡ opening (table (now (edges .entry)) (now (reverse .entry)) (now (area .entry))) (memory (now (head .entry)) (now (cells .entry)) (now (parent .entry)) (now (rank .entry)) (now («cell_mark» .entry)) (now («slot_row» .entry)) (now («slot_cell» .entry)) (now (prev .entry)) (now (next .entry)) (now («row_slot» .entry)) (now («row_mark» .entry))) mode ⌝ }
 {
-    let verdict = open_verdict(
-        edges,
-        reverse,
-        area,
-        head,
-        cells,
-        parent,
-        rank,
-        cell_mark,
-        slot_row,
-        slot_cell,
-        prev,
-        next,
-        row_slot,
-        row_mark,
-        mode,
-    );
+    let fits = both_agree(edges.len(), reverse.len(), area.len())
+        & (head.len() == 2)
+        & three_agree(cells.len(), parent.len(), rank.len(), cell_mark.len())
+        & three_agree(slot_row.len(), slot_cell.len(), prev.len(), next.len())
+        & both_agree(edges.len(), row_slot.len(), row_mark.len())
+        & capacities_fit(slot_row.len(), cells.len());
+    let verdict = open_verdict(edges, reverse, area, mode, fits);
     if is_accepted(verdict) {
         Pool::open(
             head,
@@ -121,7 +108,8 @@ pub fn offer(
     if !is_accepted(verdict) {
         return verdict;
     }
-    take_one(
+    let list = [cell];
+    take_all(
         edges,
         reverse,
         area,
@@ -136,7 +124,7 @@ pub fn offer(
         next,
         row_slot,
         row_mark,
-        cell,
+        &list,
     )
 }
 
@@ -165,7 +153,8 @@ pub fn read_out(
     ensures { λ r. ⌜ record { answer = r; left = memory (now (head .entry)) (now (cells .entry)) (now (parent .entry)) (now (rank .entry)) (now («cell_mark» .exit)) (now («slot_row» .entry)) (now («slot_cell» .entry)) (now (prev .entry)) (now (next .entry)) (now («row_slot» .entry)) (now («row_mark» .exit)); out = output (now (start .exit)) (now (size .exit)) (now (group .exit)) (now («ring_area» .exit)) (now («ring_edges» .exit)) }
         ≡ readingOut (table (now (edges .entry)) (now (reverse .entry)) (now (area .entry))) (memory (now (head .entry)) (now (cells .entry)) (now (parent .entry)) (now (rank .entry)) (now («cell_mark» .entry)) (now («slot_row» .entry)) (now («slot_cell» .entry)) (now (prev .entry)) (now (next .entry)) (now («row_slot» .entry)) (now («row_mark» .entry))) (output (now (start .entry)) (now (size .entry)) (now (group .entry)) (now («ring_area» .entry)) (now («ring_edges» .entry))) ⌝ }
 {
-    let verdict = read_verdict(
+    let agree = three_agree(start.len(), size.len(), group.len(), ring_area.len());
+    let verdict = state_verdict(
         edges,
         reverse,
         area,
@@ -180,27 +169,18 @@ pub fn read_out(
         next,
         row_slot,
         row_mark,
-        start,
-        size,
-        group,
-        ring_area,
-        ring_edges,
+        agree,
     );
     read_if(
-        edges,
-        reverse,
-        area,
-        head,
-        cells,
-        parent,
-        rank,
-        cell_mark,
+        row_slot,
         slot_row,
         slot_cell,
-        prev,
         next,
-        row_slot,
+        parent,
+        head,
+        area,
         row_mark,
+        cell_mark,
         start,
         size,
         group,
@@ -237,29 +217,14 @@ pub fn dissolve(
     ensures { λ r. ⌜ record { answer = r; left = memory (now (head .exit)) (now (cells .exit)) (now (parent .exit)) (now (rank .exit)) (now («cell_mark» .exit)) (now («slot_row» .exit)) (now («slot_cell» .exit)) (now (prev .exit)) (now (next .exit)) (now («row_slot» .exit)) (now («row_mark» .exit)); out = output (now (start .exit)) (now (size .exit)) (now (group .exit)) (now («ring_area» .exit)) (now («ring_edges» .exit)) }
         ≡ dissolving (table (now (edges .entry)) (now (reverse .entry)) (now (area .entry))) (memory (now (head .entry)) (now (cells .entry)) (now (parent .entry)) (now (rank .entry)) (now («cell_mark» .entry)) (now («slot_row» .entry)) (now («slot_cell» .entry)) (now (prev .entry)) (now (next .entry)) (now («row_slot» .entry)) (now («row_mark» .entry))) mode (now (list .entry)) (output (now (start .entry)) (now (size .entry)) (now (group .entry)) (now («ring_area» .entry)) (now («ring_edges» .entry))) ⌝ }
 {
-    let verdict = dissolve_verdict(
-        edges,
-        reverse,
-        area,
-        head,
-        cells,
-        parent,
-        rank,
-        cell_mark,
-        slot_row,
-        slot_cell,
-        prev,
-        next,
-        row_slot,
-        row_mark,
-        list,
-        start,
-        size,
-        group,
-        ring_area,
-        ring_edges,
-        mode,
-    );
+    let fits = both_agree(edges.len(), reverse.len(), area.len())
+        & (head.len() == 2)
+        & three_agree(cells.len(), parent.len(), rank.len(), cell_mark.len())
+        & three_agree(slot_row.len(), slot_cell.len(), prev.len(), next.len())
+        & both_agree(edges.len(), row_slot.len(), row_mark.len())
+        & capacities_fit(slot_row.len(), cells.len());
+    let agree = three_agree(start.len(), size.len(), group.len(), ring_area.len());
+    let verdict = list_verdict(edges, reverse, area, list, mode, cells.len(), agree & fits);
     if !is_accepted(verdict) {
         return refusal(verdict);
     }

@@ -1,11 +1,11 @@
 -- `solvent::offer` meets its contract. Refused by a test before the outline, or the cell is taken.
 -- Assumes nothing.
+use borrow.Author.Needs.{needs}
 use Rattle.scope.specs.Table.{table}
 use Rattle.scope.specs.Memory.{memory}
 use mathlib.Core.Path.{_≡_, refl, sym, _∙_, ap}
 use Rattle.scope.proofs.Tests.{fails, holds}
-use Rattle.solvent.proofs.Offers.{offer-stops, offer-asks}
-use borrow.Author.Needs.{needs}
+use Rattle.solvent.proofs.Offers.{offer-stops, offer-asks, offer-taken}
 use Rattle.solvent.proofs.offer.Statement.{statement}
 use Rattle.solvent.proofs.offer.Tie as tie
 
@@ -51,44 +51,47 @@ same-length-11 c = refl
 returns : tie.Need-returns
 returns c = let a = c .before .before .before .before .before .before .before .before .before .before .before .before .before .before .before .before .before .before .before .before .before .before .before .before .before .before .before .before .args in let t = table (a .edges .now) (a .reverse .now) (a .area .now) in let m = memory (a .head .now) (a .cells .now) (a .parent .now) (a .rank .now) (a .cell-mark .now) (a .slot-row .now) (a .slot-cell .now) (a .prev .now) (a .next .now) (a .row-slot .now) (a .row-mark .now) in offer-stops t m (a .cell) (c .before .before .admit-verdict .ensures) (fails (c .before .is-accepted .ensures) (c .if1 .taken))
 
-take-one-requires : tie.Need-take-one-requires
-take-one-requires c κs = let a = c .before .before .before .before .before .before .before .before .before .before .before .before .before .before .before .before .before .before .before .before .before .before .before .before .before .before .before .before .before .before .before .before .before .before .before .before .before .before .before .args in let t = table (a .edges .now) (a .reverse .now) (a .area .now) in let m = memory (a .head .now) (a .cells .now) (a .parent .now) (a .rank .now) (a .cell-mark .now) (a .slot-row .now) (a .slot-cell .now) (a .prev .now) (a .next .now) (a .row-slot .now) (a .row-mark .now) in offer-asks t m (a .cell) (c .before .before .before .before .before .before .before .before .before .before .before .before .before .admit-verdict .ensures) (holds (c .before .before .before .before .before .before .before .before .before .before .before .before .is-accepted .ensures) (c .before .before .before .before .before .before .before .before .before .before .before .if1 .left))
+slice-aggregate-take-all : tie.Need-slice-aggregate-take-all
+slice-aggregate-take-all c = refl
+
+take-all-requires : tie.Need-take-all-requires
+take-all-requires c κs = let a = c .before .before .before .before .before .before .before .before .before .before .before .before .before .before .before .before .before .before .before .before .before .before .before .before .before .before .before .before .before .before .before .before .before .before .before .before .before .before .before .before .args in let t = table (a .edges .now) (a .reverse .now) (a .area .now) in let m = memory (a .head .now) (a .cells .now) (a .parent .now) (a .rank .now) (a .cell-mark .now) (a .slot-row .now) (a .slot-cell .now) (a .prev .now) (a .next .now) (a .row-slot .now) (a .row-mark .now) in offer-asks t m (a .cell) (c .before .before .before .before .before .before .before .before .before .before .before .before .before .before .admit-verdict .ensures) (holds (c .before .before .before .before .before .before .before .before .before .before .before .before .before .is-accepted .ensures) (c .before .before .before .before .before .before .before .before .before .before .before .before .if1 .left))
 
 same-length-12 : tie.Need-same-length-12
-same-length-12 c = c .before .before .before .before .before .before .before .before .before .before .before .before .before .before .before .before .before .before .before .before .take-one .kept .1 .1 .1 .0
+same-length-12 c = c .before .before .before .before .before .before .before .before .before .before .before .before .before .before .before .before .before .before .before .before .take-all .kept .1 .1 .1 .0
 
 same-length-13 : tie.Need-same-length-13
-same-length-13 c = c .before .before .before .before .before .before .before .before .before .before .before .before .before .before .before .before .before .before .before .before .take-one .kept .1 .1 .1 .1 .0
+same-length-13 c = c .before .before .before .before .before .before .before .before .before .before .before .before .before .before .before .before .before .before .before .before .take-all .kept .1 .1 .1 .1 .0
 
 same-length-14 : tie.Need-same-length-14
-same-length-14 c = c .before .before .before .before .before .before .before .before .before .before .before .before .before .before .before .before .before .before .before .before .take-one .kept .1 .1 .1 .1 .1 .0
+same-length-14 c = c .before .before .before .before .before .before .before .before .before .before .before .before .before .before .before .before .before .before .before .before .take-all .kept .1 .1 .1 .1 .1 .0
 
 same-length-15 : tie.Need-same-length-15
-same-length-15 c = c .before .before .before .before .before .before .before .before .before .before .before .before .before .before .before .before .before .before .before .before .take-one .kept .1 .1 .1 .1 .1 .1 .0
+same-length-15 c = c .before .before .before .before .before .before .before .before .before .before .before .before .before .before .before .before .before .before .before .before .take-all .kept .1 .1 .1 .1 .1 .1 .0
 
 same-length-16 : tie.Need-same-length-16
 same-length-16 c = refl
 
 same-length-17 : tie.Need-same-length-17
-same-length-17 c = c .before .before .before .before .before .before .before .before .before .before .before .before .before .before .before .before .before .before .before .before .take-one .kept .1 .1 .1 .1 .1 .1 .1 .1 .0
+same-length-17 c = c .before .before .before .before .before .before .before .before .before .before .before .before .before .before .before .before .before .before .before .before .take-all .kept .1 .1 .1 .1 .1 .1 .1 .1 .0
 
 same-length-18 : tie.Need-same-length-18
-same-length-18 c = c .before .before .before .before .before .before .before .before .before .before .before .before .before .before .before .before .before .before .before .before .take-one .kept .1 .1 .1 .1 .1 .1 .1 .1 .1 .0
+same-length-18 c = c .before .before .before .before .before .before .before .before .before .before .before .before .before .before .before .before .before .before .before .before .take-all .kept .1 .1 .1 .1 .1 .1 .1 .1 .1 .0
 
 same-length-19 : tie.Need-same-length-19
-same-length-19 c = c .before .before .before .before .before .before .before .before .before .before .before .before .before .before .before .before .before .before .before .before .take-one .kept .1 .1 .1 .1 .1 .1 .1 .1 .1 .1 .0
+same-length-19 c = c .before .before .before .before .before .before .before .before .before .before .before .before .before .before .before .before .before .before .before .before .take-all .kept .1 .1 .1 .1 .1 .1 .1 .1 .1 .1 .0
 
 same-length-20 : tie.Need-same-length-20
-same-length-20 c = c .before .before .before .before .before .before .before .before .before .before .before .before .before .before .before .before .before .before .before .before .take-one .kept .1 .1 .1 .1 .1 .1 .1 .1 .1 .1 .1 .0
+same-length-20 c = c .before .before .before .before .before .before .before .before .before .before .before .before .before .before .before .before .before .before .before .before .take-all .kept .1 .1 .1 .1 .1 .1 .1 .1 .1 .1 .1 .0
 
 same-length-21 : tie.Need-same-length-21
-same-length-21 c = c .before .before .before .before .before .before .before .before .before .before .before .before .before .before .before .before .before .before .before .before .take-one .kept .1 .1 .1 .1 .1 .1 .1 .1 .1 .1 .1 .1 .0
+same-length-21 c = c .before .before .before .before .before .before .before .before .before .before .before .before .before .before .before .before .before .before .before .before .take-all .kept .1 .1 .1 .1 .1 .1 .1 .1 .1 .1 .1 .1 .0
 
 same-length-22 : tie.Need-same-length-22
-same-length-22 c = c .before .before .before .before .before .before .before .before .before .before .before .before .before .before .before .before .before .before .before .before .take-one .kept .1 .1 .1 .1 .1 .1 .1 .1 .1 .1 .1 .1 .1 .0
+same-length-22 c = c .before .before .before .before .before .before .before .before .before .before .before .before .before .before .before .before .before .before .before .before .take-all .kept .1 .1 .1 .1 .1 .1 .1 .1 .1 .1 .1 .1 .1 .0
 
 returns-2 : tie.Need-returns-2
-returns-2 c = c .before .before .before .before .before .before .before .before .before .before .before .before .before .before .before .before .before .before .before .before .take-one .ensures
+returns-2 c = let a = c .before .before .before .before .before .before .before .before .before .before .before .before .before .before .before .before .before .before .before .before .before .before .before .before .before .before .before .before .before .before .before .before .before .before .before .before .before .before .before .before .before .before .before .before .before .before .before .before .before .before .before .before .before .before .before .before .before .before .before .before .before .args in let t = table (a .edges .now) (a .reverse .now) (a .area .now) in let m = memory (a .head .now) (a .cells .now) (a .parent .now) (a .rank .now) (a .cell-mark .now) (a .slot-row .now) (a .slot-cell .now) (a .prev .now) (a .next .now) (a .row-slot .now) (a .row-mark .now) in offer-taken t m (a .cell) (c .before .before .before .before .before .before .before .before .before .before .before .before .before .before .before .before .before .before .before .before .take-all .ensures)
 
 pub offer-spec : {M : Type 1} → statement M
 offer-spec =
@@ -108,7 +111,8 @@ offer-spec =
     same-length-10
     same-length-11
     returns
-    take-one-requires
+    slice-aggregate-take-all
+    take-all-requires
     same-length-12
     same-length-13
     same-length-14

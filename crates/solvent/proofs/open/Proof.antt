@@ -1,12 +1,28 @@
 -- `solvent::open` meets its contract. The pool is opened where both tests accept.
 -- Assumes nothing.
+use borrow.Author.Needs.{needs}
 use Rattle.scope.specs.Table.{table}
 use Rattle.scope.specs.Memory.{memory}
-use mathlib.Core.Path.{refl, sym, _∙_}
+use mathlib.Core.Path.{_≡_, refl, sym, _∙_, ap}
+use Rattle.admission.proofs.Fitting.{lengths-are}
 use Rattle.solvent.proofs.Opening.{head-two, opens, opens-not}
-use borrow.Author.Needs.{needs}
 use Rattle.solvent.proofs.open.Statement.{statement}
 use Rattle.solvent.proofs.open.Tie as tie
+
+both-agree-requires : tie.Need-both-agree-requires
+both-agree-requires c κs = search needs
+
+three-agree-requires : tie.Need-three-agree-requires
+three-agree-requires c κs = search needs
+
+three-agree-requires-2 : tie.Need-three-agree-requires-2
+three-agree-requires-2 c κs = search needs
+
+both-agree-requires-2 : tie.Need-both-agree-requires-2
+both-agree-requires-2 c κs = search needs
+
+capacities-fit-requires : tie.Need-capacities-fit-requires
+capacities-fit-requires c κs = search needs
 
 open-verdict-requires : tie.Need-open-verdict-requires
 open-verdict-requires c κs = search needs
@@ -15,7 +31,7 @@ is-accepted-requires : tie.Need-is-accepted-requires
 is-accepted-requires c κs = search needs
 
 open-requires : tie.Need-open-requires
-open-requires c κs = let a = c .before .before .before .before .before .before .before .before .before .before .before .before .before .before .before .before .before .before .before .before .before .before .before .before .before .before .before .before .before .before .before .before .before .before .before .before .before .before .before .args in let t = table (a .edges .now) (a .reverse .now) (a .area .now) in let m = memory (a .head .now) (a .cells .now) (a .parent .now) (a .rank .now) (a .cell-mark .now) (a .slot-row .now) (a .slot-cell .now) (a .prev .now) (a .next .now) (a .row-slot .now) (a .row-mark .now) in head-two t m (a .mode) (c .before .before .before .before .before .before .before .before .before .before .before .before .before .open-verdict .ensures) (sym (c .before .before .before .before .before .before .before .before .before .before .before .before .is-accepted .ensures) ∙ c .before .before .before .before .before .before .before .before .before .before .before .if1 .taken)
+open-requires c κs = let a = c .before .before .before .before .before .before .before .before .before .before .before .before .before .before .before .before .before .before .before .before .before .before .before .before .before .before .before .before .before .before .before .before .before .args in let t = table (a .edges .now) (a .reverse .now) (a .area .now) in let m = memory (a .head .now) (a .cells .now) (a .parent .now) (a .rank .now) (a .cell-mark .now) (a .slot-row .now) (a .slot-cell .now) (a .prev .now) (a .next .now) (a .row-slot .now) (a .row-mark .now) in let f = lengths-are t m (c .before .before .before .before .before .before .before .before .before .before .before .before .before .before .before .before .before .before .both-agree .ensures) (c .before .before .before .before .before .before .before .before .before .before .before .before .before .before .before .before .before .three-agree .ensures) (c .before .before .before .before .before .before .before .before .before .before .before .before .before .before .before .before .three-agree2 .ensures) (c .before .before .before .before .before .before .before .before .before .before .before .before .before .before .before .both-agree2 .ensures) (c .before .before .before .before .before .before .before .before .before .before .before .before .before .before .capacities-fit .ensures) in head-two t m (a .mode) f (c .before .before .before .before .before .before .before .before .before .before .before .before .before .open-verdict .ensures) (sym (c .before .before .before .before .before .before .before .before .before .before .before .before .is-accepted .ensures) ∙ c .before .before .before .before .before .before .before .before .before .before .before .if1 .taken)
 
 same-length : tie.Need-same-length
 same-length c = c .before .before .before .before .before .before .before .before .before .before .before .before .before .before .before .before .before .before .before .before .before .before .«open» .kept .0
@@ -51,48 +67,20 @@ same-length-11 : tie.Need-same-length-11
 same-length-11 c = c .before .before .before .before .before .before .before .before .before .before .before .before .before .before .before .before .before .before .before .before .before .before .«open» .kept .1 .1 .1 .1 .1 .1 .1 .1 .1 .1 .0
 
 returns : tie.Need-returns
-returns c = let a = c .before .before .before .before .before .before .before .before .before .before .before .before .before .before .before .before .before .before .before .before .before .before .before .before .before .before .before .before .before .before .before .before .before .before .before .before .before .before .before .before .before .before .before .before .before .before .before .before .before .before .before .before .before .before .before .before .before .before .before .before .before .before .args in let t = table (a .edges .now) (a .reverse .now) (a .area .now) in let m = memory (a .head .now) (a .cells .now) (a .parent .now) (a .rank .now) (a .cell-mark .now) (a .slot-row .now) (a .slot-cell .now) (a .prev .now) (a .next .now) (a .row-slot .now) (a .row-mark .now) in opens t m (a .mode) (c .before .before .before .before .before .before .before .before .before .before .before .before .before .before .before .before .before .before .before .before .before .before .before .before .before .before .before .before .before .before .before .before .before .before .before .before .open-verdict .ensures) (sym (c .before .before .before .before .before .before .before .before .before .before .before .before .before .before .before .before .before .before .before .before .before .before .before .before .before .before .before .before .before .before .before .before .before .before .before .is-accepted .ensures) ∙ c .before .before .before .before .before .before .before .before .before .before .before .before .before .before .before .before .before .before .before .before .before .before .before .before .before .before .before .before .before .before .before .before .before .before .if1 .taken) (c .before .before .before .before .before .before .before .before .before .before .before .before .before .before .before .before .before .before .before .before .before .before .«open» .ensures)
-
-same-length-12 : tie.Need-same-length-12
-same-length-12 c = refl
-
-same-length-13 : tie.Need-same-length-13
-same-length-13 c = refl
-
-same-length-14 : tie.Need-same-length-14
-same-length-14 c = refl
-
-same-length-15 : tie.Need-same-length-15
-same-length-15 c = refl
-
-same-length-16 : tie.Need-same-length-16
-same-length-16 c = refl
-
-same-length-17 : tie.Need-same-length-17
-same-length-17 c = refl
-
-same-length-18 : tie.Need-same-length-18
-same-length-18 c = refl
-
-same-length-19 : tie.Need-same-length-19
-same-length-19 c = refl
-
-same-length-20 : tie.Need-same-length-20
-same-length-20 c = refl
-
-same-length-21 : tie.Need-same-length-21
-same-length-21 c = refl
-
-same-length-22 : tie.Need-same-length-22
-same-length-22 c = refl
+returns c = let a = c .before .before .before .before .before .before .before .before .before .before .before .before .before .before .before .before .before .before .before .before .before .before .before .before .before .before .before .before .before .before .before .before .before .before .before .before .before .before .before .before .before .before .before .before .before .before .before .before .before .before .before .before .before .before .before .before .args in let t = table (a .edges .now) (a .reverse .now) (a .area .now) in let m = memory (a .head .now) (a .cells .now) (a .parent .now) (a .rank .now) (a .cell-mark .now) (a .slot-row .now) (a .slot-cell .now) (a .prev .now) (a .next .now) (a .row-slot .now) (a .row-mark .now) in let f = lengths-are t m (c .before .before .before .before .before .before .before .before .before .before .before .before .before .before .before .before .before .before .before .before .before .before .before .before .before .before .before .before .before .before .before .before .before .before .before .before .before .before .before .before .before .both-agree .ensures) (c .before .before .before .before .before .before .before .before .before .before .before .before .before .before .before .before .before .before .before .before .before .before .before .before .before .before .before .before .before .before .before .before .before .before .before .before .before .before .before .before .three-agree .ensures) (c .before .before .before .before .before .before .before .before .before .before .before .before .before .before .before .before .before .before .before .before .before .before .before .before .before .before .before .before .before .before .before .before .before .before .before .before .before .before .before .three-agree2 .ensures) (c .before .before .before .before .before .before .before .before .before .before .before .before .before .before .before .before .before .before .before .before .before .before .before .before .before .before .before .before .before .before .before .before .before .before .before .before .before .before .both-agree2 .ensures) (c .before .before .before .before .before .before .before .before .before .before .before .before .before .before .before .before .before .before .before .before .before .before .before .before .before .before .before .before .before .before .before .before .before .before .before .before .before .capacities-fit .ensures) in opens t m (a .mode) f (c .before .before .before .before .before .before .before .before .before .before .before .before .before .before .before .before .before .before .before .before .before .before .before .before .before .before .before .before .before .before .before .before .before .before .before .before .open-verdict .ensures) (sym (c .before .before .before .before .before .before .before .before .before .before .before .before .before .before .before .before .before .before .before .before .before .before .before .before .before .before .before .before .before .before .before .before .before .before .before .is-accepted .ensures) ∙ c .before .before .before .before .before .before .before .before .before .before .before .before .before .before .before .before .before .before .before .before .before .before .before .before .before .before .before .before .before .before .before .before .before .before .if1 .taken) (c .before .before .before .before .before .before .before .before .before .before .before .before .before .before .before .before .before .before .before .before .before .before .«open» .ensures)
 
 returns-2 : tie.Need-returns-2
-returns-2 c = let a = c .before .before .before .before .before .before .before .before .before .before .before .before .before .before .before .before .before .before .before .before .before .before .before .before .before .before .before .before .args in let t = table (a .edges .now) (a .reverse .now) (a .area .now) in let m = memory (a .head .now) (a .cells .now) (a .parent .now) (a .rank .now) (a .cell-mark .now) (a .slot-row .now) (a .slot-cell .now) (a .prev .now) (a .next .now) (a .row-slot .now) (a .row-mark .now) in opens-not t m (a .mode) (c .before .before .open-verdict .ensures) (sym (c .before .is-accepted .ensures) ∙ c .if1 .left)
+returns-2 c = let a = c .before .before .before .before .before .before .before .before .before .before .before .before .before .before .before .before .before .before .before .before .before .before .args in let t = table (a .edges .now) (a .reverse .now) (a .area .now) in let m = memory (a .head .now) (a .cells .now) (a .parent .now) (a .rank .now) (a .cell-mark .now) (a .slot-row .now) (a .slot-cell .now) (a .prev .now) (a .next .now) (a .row-slot .now) (a .row-mark .now) in let f = lengths-are t m (c .before .before .before .before .before .before .before .both-agree .ensures) (c .before .before .before .before .before .before .three-agree .ensures) (c .before .before .before .before .before .three-agree2 .ensures) (c .before .before .before .before .both-agree2 .ensures) (c .before .before .before .capacities-fit .ensures) in opens-not t m (a .mode) f (c .before .before .open-verdict .ensures) (sym (c .before .is-accepted .ensures) ∙ c .if1 .left)
 
 pub open-spec : {M : Type 1} → statement M
 open-spec =
     tie.close
     (tie.spec
+    both-agree-requires
+    three-agree-requires
+    three-agree-requires-2
+    both-agree-requires-2
+    capacities-fit-requires
     open-verdict-requires
     is-accepted-requires
     open-requires
@@ -108,15 +96,4 @@ open-spec =
     same-length-10
     same-length-11
     returns
-    same-length-12
-    same-length-13
-    same-length-14
-    same-length-15
-    same-length-16
-    same-length-17
-    same-length-18
-    same-length-19
-    same-length-20
-    same-length-21
-    same-length-22
     returns-2)

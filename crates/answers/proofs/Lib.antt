@@ -1,0 +1,3 @@
+-- Laws about answers that the calls and their parts share.
+pub mod InARow
+pub mod Outcomes

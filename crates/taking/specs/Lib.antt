@@ -1,0 +1,3 @@
+-- What the contracts of this crate cite beside `scope`.
+pub mod Outlines
+pub mod Taking

@@ -41,8 +41,38 @@ pub fn run(folder: &Folder) -> Result<(), String> {
     heading("plain read");
     open(&big.table);
     offer(&big);
+    heading("Rust");
+    for (name, cell) in [("hexagon", 0x0800_1fff_ffff_ffff), ("pentagon", 0x0800_9fff_ffff_ffff)] {
+        for target in [0, 1, 7, 14] {
+            walk(&format!("walk, {name} of resolution 0 to {target}"), cell, target);
+        }
+    }
     Ok(())
 }
+
+/// An outline's edges, by exclusive or: the time of one edge, with its share of the walk's start.
+#[cfg(h3o)]
+fn walk(name: &str, cell: u64, target: u32) {
+    use oracle::{CellIndex, Resolution};
+    let resolution = Resolution::new(target as u8).expect("a resolution is at most 15");
+    let outline = || CellIndex(black_box(cell)).outline(resolution);
+    let rust = || outline().fold(0, |edges, edge| edges ^ edge.0);
+    if subject::walk(cell, target) != Some(rust()) {
+        println!("{name}: rt staticlib walk_timing was not there when this was built, or walks otherwise");
+        return;
+    }
+    // Short walks are repeated, so that the clock counts for little.
+    let edges = outline().count() as u32;
+    let repeats = 1 + 20_000 / edges;
+    let library = || time(|| (0..repeats).fold(0, |sum, _| sum ^ subject::walk(black_box(cell), target).unwrap_or(0)));
+    let theirs = || time(|| (0..repeats).fold(0, |sum, _| sum ^ rust()));
+    let (library, theirs) = least_in_turn(library, theirs);
+    let each = |time: Duration| time.as_secs_f64() * 1e9 / f64::from(edges * repeats);
+    line_for_each(&format!("{name}, an edge"), each(library), each(theirs), "ns");
+}
+
+#[cfg(not(h3o))]
+fn walk(_: &str, _: u64, _: u32) {}
 
 /// What is dissolved: its name, the mode, the cells.
 fn lists(big: &Given) -> [(&'static str, u32, Vec<u64>); 4] {
@@ -59,9 +89,11 @@ fn heading(other: &str) {
 }
 
 fn line(name: &str, (library, other): (Duration, Duration)) {
-    let micros = |time: Duration| time.as_secs_f64() * 1e6;
-    let ratio = library.as_secs_f64() / other.as_secs_f64();
-    println!("{name:<56}{:>9.1} us{:>9.1} us{ratio:>8.2}", micros(library), micros(other));
+    line_for_each(name, library.as_secs_f64() * 1e6, other.as_secs_f64() * 1e6, "us");
+}
+
+fn line_for_each(name: &str, library: f64, other: f64, unit: &str) {
+    println!("{name:<56}{library:>9.1} {unit}{other:>9.1} {unit}{:>8.2}", library / other);
 }
 
 fn dissolve(name: &str, table: &Table, mode: u32, cells: &[u64], slots: usize, places: usize) {

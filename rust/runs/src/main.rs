@@ -103,19 +103,14 @@ fn compare(arguments: &Arguments, names: &[&str]) -> Result<(), String> {
     Ok(())
 }
 
-/// Says in a line what is missing; the texts and the tables missing is an error where CI is set. Without the tables only the fixed list is
-/// replayed. The library's entry points on bytes are still to come, so that it may be missing.
+/// Says in a line what is missing, which is an error where CI is set. Without the tables only the fixed list is replayed.
 fn all_is_there(tables: &Folder) -> Result<bool, String> {
     let library = "the library (target/staticlib/libhost.a) was not there when this was built: the rules are compared with the Rust alone";
     let texts = "the Rust's texts were not there when this was built: the library is compared with the rules alone";
     let folder = format!("no real tables in {}: only the fixed list is replayed", tables.0.display());
-    let parts = [
-        (subject::AVAILABLE, false, library),
-        (oracle::AVAILABLE, true, texts),
-        (tables.is_there(), true, folder.as_str()),
-    ];
-    for (_, needed, missing) in parts.iter().filter(|(there, ..)| !there) {
-        if *needed && env::var_os("CI").is_some() {
+    let parts = [(subject::AVAILABLE, library), (oracle::AVAILABLE, texts), (tables.is_there(), folder.as_str())];
+    for (_, missing) in parts.iter().filter(|(there, _)| !there) {
+        if env::var_os("CI").is_some() {
             return Err((*missing).into());
         }
         println!("{missing}");

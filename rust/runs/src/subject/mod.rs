@@ -4,7 +4,7 @@
 pub mod exports;
 
 /// Whether the static library was there when this was built.
-pub const AVAILABLE: bool = cfg!(subject);
+pub const AVAILABLE: bool = cfg!(all(subject, exports));
 
 #[cfg(subject)]
 mod linked {
@@ -66,3 +66,18 @@ pub use linked::{dissolve, standing};
 pub use crate::rules::bytes::{dissolve, standing};
 #[cfg(not(exports))]
 pub use crate::rules::full as exports;
+
+/// The walk alone: all edges of an outline, by exclusive or. For the benchmark.
+#[cfg(walk)]
+pub fn walk(cell: u64, target: u32) -> Option<u64> {
+    unsafe extern "C" {
+        fn zone_walk(cell: u64, target: usize) -> u64;
+    }
+    // SAFETY: it takes any numbers and touches no memory of ours.
+    Some(unsafe { zone_walk(cell, target as usize) })
+}
+
+#[cfg(not(walk))]
+pub fn walk(_: u64, _: u32) -> Option<u64> {
+    None
+}

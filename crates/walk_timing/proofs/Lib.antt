@@ -1,0 +1,2 @@
+-- What the loop over the walk keeps.
+pub mod Mixing

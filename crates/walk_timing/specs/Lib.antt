@@ -1,0 +1,2 @@
+-- What the contract of the walk cites beside `scope`.
+pub mod Mixed

@@ -1,3 +1,4 @@
 pub mod Outputs
 pub mod Calling
 pub mod Rooms
+pub mod Determined

@@ -44,12 +44,21 @@ pub fn note_rows(edges: &[u64], notes: &mut [u32])
     }
 }
 
+// What is noted for an edge, 0 where nothing is: a guess, of which nothing is promised.
+fn note_of(notes: &[u32], edge: u64) -> usize {
+    if notes.len() <= 0x1_0000_0000 {
+        at32(notes, note_place(edge, notes.len()))
+    } else {
+        0
+    }
+}
+
 // The row of an edge, by its note or else by halving.
 pub fn find_noted(edges: &[u64], notes: &[u32], edge: u64) -> Found
-    requires { ⌜ (passes (ascends (now edges)) (length (now edges)) ≡ true) × (length (now notes) ≤ 2 ^ 32) ⌝ }
+    requires { ⌜ passes (ascends (now edges)) (length (now edges)) ≡ true ⌝ }
     ensures { λ r. ⌜ r ≡ findRow (now (edges .entry)) edge ⌝ }
 {
-    let row = at32(notes, note_place(edge, notes.len()));
+    let row = note_of(notes, edge);
     if row < edges.len() {
         if edges[row] == edge {
             return Found::At(row);

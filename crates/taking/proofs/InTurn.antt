@@ -15,7 +15,7 @@ use Rattle.scope.specs.declared.Verdict.{Verdict}
 use Rattle.scope.specs.declared.Verdict.the-variants.{Accepted, Refused}
 use Rattle.scope.specs.Lists.{at}
 use Rattle.scope.specs.Answers.{_▷_, isAccepted, ifAccepted}
-use Rattle.scope.specs.Table.{Table, targetOf, outlineRows}
+use Rattle.scope.specs.Table.{Table, rowCount, targetOf, outlineRows}
 use Rattle.scope.specs.CellLists.{listVerdict, cellVerdict}
 use Rattle.scope.specs.Memory.{Memory, keptMode, heldCells, places}
 use Rattle.scope.specs.Pool.{freeSlots, outlineVerdict, taking}
@@ -28,7 +28,7 @@ use Rattle.scope.proofs.Taking.{taken-mode, taken-room, taken-cells}
 use Rattle.scope.proofs.TakingRules.{taken-sound}
 use Rattle.arcs.specs.Place.{freeIn}
 use Rattle.taking.specs.declared.take.Taken.{Taken}
-use Rattle.taking.specs.Taking.{TakeAsks, Takes, ListAsks, TakesAll}
+use Rattle.taking.specs.Taking.{TakeAsks, Takes, ListAsks, ScratchAsks, TakesAll}
 use Rattle.taking.proofs.Sizes.{Sized, sized-refl, sized-on}
 
 pub free-slots : (m : Memory) {free : ℕ} → free ≡ length (freeIn (m .slotRow)) → free ≡ length (freeSlots m)
@@ -63,11 +63,11 @@ pub record InTurn (t : Table) (m₀ : Memory) (cs : List ℕ) (m : Memory) (rows
   pub asks : ListAsks t m (drop i cs)
   pub same : offeringAll t m₀ cs ≡ offeringAll t m (drop i cs)
   pub free-count : free ≡ length (freeSlots m)
-  pub room : 65536 ≡ length rows
+  pub room : rowCount t ≤ length rows
   pub sized : Sized m₀ m
 
-pub turn-start : {t : Table} {m : Memory} {cs rows : List ℕ} {free : ℕ} → ListAsks t m cs → free ≡ length (freeSlots m) → 65536 ≡ length rows → InTurn t m cs m rows free 0
-turn-start {m = m} A e room = record { within = omega arith; asks = A; same = refl; free-count = e; room = room; sized = sized-refl m }
+pub turn-start : {t : Table} {m : Memory} {cs rows : List ℕ} {free : ℕ} → ScratchAsks t m rows cs → free ≡ length (freeSlots m) → InTurn t m cs m rows free 0
+turn-start {m = m} A e = record { within = omega arith; asks = A .asks; same = refl; free-count = e; room = A .room; sized = sized-refl m }
 
 module _ {t : Table} {m₀ m : Memory} {cs rows : List ℕ} {free i : ℕ} (I : InTurn t m₀ cs m rows free i) where
   pub turn-end : length cs ≤ i → TakesAll t m₀ cs Accepted m
@@ -83,7 +83,7 @@ module _ {t : Table} {m₀ m : Memory} {cs rows : List ℕ} {free i : ℕ} (I : 
         (subst (λ (l : List ℕ). listVerdict (keptMode m) (targetOf t) (places m) (heldCells m ++ l) ≡ Accepted) next (I .asks .list))
 
     pub turn-asks : TakeAsks t m rows (at cs i) free
-    turn-asks = record { sound = I .asks .sound; cell = in-list .1; free-count = I .free-count; room = let k = I .room in omega arith }
+    turn-asks = record { sound = I .asks .sound; cell = in-list .1; free-count = I .free-count; room = I .room }
 
     module _ {r : Taken} {m′ : Memory} (T : Takes t m (at cs i) r m′) where
       done : record { answer = r .verdict; left = m′ } ≡ offering t m (at cs i)
@@ -115,6 +115,6 @@ module _ {t : Table} {m₀ m : Memory} {cs rows : List ℕ} {free i : ℕ} (I : 
           asks = rw (add-one i) (subst (λ (l : Memory). ListAsks t l (drop (suc i) cs)) (sym taken-left) (record { sound = taken-sound offered-now; list = list-now }));
           same = rw (add-one i) (I .same ∙ ap (offeringAll t m) next ∙ all-on t m (at cs i) (drop (suc i) cs) done e);
           free-count = T .free-count;
-          room = I .room ∙ sym k;
+          room = omega (arith, I .room, k);
           sized = sized-on (I .sized) z;
         }

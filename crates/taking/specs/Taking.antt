@@ -9,7 +9,7 @@ use lib.ListN.{length}
 use Rattle.scope.specs.declared.Verdict.{Verdict}
 use Rattle.scope.specs.declared.Verdict.the-variants.{Accepted}
 use Rattle.scope.specs.Answers.{require, _▷_}
-use Rattle.scope.specs.Table.{Table, targetOf, outlineRows}
+use Rattle.scope.specs.Table.{Table, rowCount, targetOf, outlineRows}
 use Rattle.scope.specs.CellLists.{listVerdict, cellVerdict}
 use Rattle.scope.specs.Memory.{Memory, keptMode, heldCells, places}
 use Rattle.scope.specs.Pool.{freeSlots, outlineVerdict, taking}
@@ -27,7 +27,7 @@ pub record TakeAsks (t : Table) (m : Memory) (rows : List ℕ) (x free : ℕ) : 
   pub sound : Sound t m
   pub cell : cellVerdict (keptMode m) (targetOf t) (places m) (heldCells m) x ≡ Accepted
   pub free-count : free ≡ length (freeSlots m)
-  pub room : 65536 ≤ length rows
+  pub room : rowCount t ≤ length rows
 
 -- Refused by 5, 6 or 7, or with one more cell; and how many slots are free then.
 pub record Takes (t : Table) (m : Memory) (x : ℕ) (r : Taken) (m′ : Memory) : Type 0 where
@@ -38,6 +38,16 @@ pub record Takes (t : Table) (m : Memory) (x : ℕ) (r : Taken) (m′ : Memory) 
 pub record ListAsks (t : Table) (m : Memory) (cs : List ℕ) : Type 0 where
   pub sound : Sound t m
   pub list : listVerdict (keptMode m) (targetOf t) (places m) (heldCells m ++ cs) ≡ Accepted
+
+-- The same, with room for the rows of an outline.
+pub record ScratchAsks (t : Table) (m : Memory) (rows cs : List ℕ) : Type 0 where
+  pub asks : ListAsks t m cs
+  pub room : rowCount t ≤ length rows
+
+-- The same, for a table of at most n rows.
+pub record FewAsks (t : Table) (m : Memory) (cs : List ℕ) (n : ℕ) : Type 0 where
+  pub asks : ListAsks t m cs
+  pub few : rowCount t ≤ n
 
 -- What offers in list order leave; where none is refused the state is sound again.
 pub record TakesAll (t : Table) (m : Memory) (cs : List ℕ) (v : Verdict) (m′ : Memory) : Type 0 where

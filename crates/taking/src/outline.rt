@@ -1,6 +1,6 @@
-// A cell's outline as rows of the table, in one walk with one search for each edge: refusals 5 and 6 come from it.
+// A cell's outline as rows of the table, in one walk with one search for each edge, most of them ended by a note: refusals 5 and 6 come from it.
 // The rows' marks tell a row that is named twice, and are clear again at the end.
-use edge_table::find_row;
+use edge_table::notes::find_noted;
 use gosper::Gosper;
 use index::resolution;
 use scope::Found;
@@ -43,7 +43,13 @@ fn unmark_rows(row_mark: &mut [u32], rows: &[u32], count: usize)
 }
 
 // Walks the outline and stores its different rows, marked, up to an edge that is absent.
-fn mark_rows(edges: &[u64], row_mark: &mut [u32], rows: &mut [u32], cell: u64) -> Outlined
+fn mark_rows(
+    edges: &[u64],
+    notes: &[u32],
+    row_mark: &mut [u32],
+    rows: &mut [u32],
+    cell: u64,
+) -> Outlined
     requires { ⌜ OutlineAsks (now edges) (now «row_mark») (now rows) cell ⌝ }
     ensures { λ r. ⌜ FindsMarked (now (edges .entry)) cell (now («row_mark» .exit)) (now (rows .exit)) r ⌝ }
 {
@@ -53,7 +59,7 @@ fn mark_rows(edges: &[u64], row_mark: &mut [u32], rows: &mut [u32], cell: u64) -
     while 0 < walk.len() {
         let stepped = walk.step();
         walk = stepped.walk;
-        let Found::At(row) = find_row(edges, stepped.edge) else {
+        let Found::At(row) = find_noted(edges, notes, stepped.edge) else {
             return Outlined {
                 count: count,
                 absent: true,
@@ -74,11 +80,17 @@ fn mark_rows(edges: &[u64], row_mark: &mut [u32], rows: &mut [u32], cell: u64) -
 }
 
 // The rows of a cell's outline. The marks are left as they were.
-pub fn outline_rows(edges: &[u64], row_mark: &mut [u32], rows: &mut [u32], cell: u64) -> Outlined
+pub fn outline_rows(
+    edges: &[u64],
+    notes: &[u32],
+    row_mark: &mut [u32],
+    rows: &mut [u32],
+    cell: u64,
+) -> Outlined
     requires { ⌜ OutlineAsks (now edges) (now «row_mark») (now rows) cell ⌝ }
     ensures { λ r. ⌜ Finds (now (edges .entry)) cell (now (rows .exit)) r × (now («row_mark» .exit) ≡ now («row_mark» .entry)) ⌝ }
 {
-    let outlined = mark_rows(edges, row_mark, rows, cell);
+    let outlined = mark_rows(edges, notes, row_mark, rows, cell);
     unmark_rows(row_mark, rows, outlined.count);
     outlined
 }

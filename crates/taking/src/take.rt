@@ -6,13 +6,9 @@ use arcs::add_edges;
 use scope::Verdict;
 use slices::get32;
 ghost use mathlib.Core.Path.{_≡_};
-ghost use lib.ListN.{length};
 ghost use Rattle.scope.specs.Table.{table};
 ghost use Rattle.scope.specs.Memory.{memory};
 ghost use Rattle.taking.specs.Taking.{outlineAnswer, TakeAsks, Takes};
-
-// The most rows of a table, and so of an outline that is taken.
-const MAX_ROWS: usize = 65536;
 
 // A cell is refused or taken; and how many slots are free then.
 pub struct Taken {
@@ -36,7 +32,7 @@ fn outline_verdict(outlined: Outlined, held: usize, free: usize) -> Verdict
     Verdict::Accepted
 }
 
-// Takes a cell of a state that admits it, where so many slots are free. `rows` is scratch.
+// Takes a cell of a state that admits it, where so many slots are free. `rows` is scratch, `notes` any notes of the table's rows.
 pub fn take_cell(
     edges: &[u64],
     reverse: &[u32],
@@ -52,6 +48,7 @@ pub fn take_cell(
     next: &mut [u32],
     row_slot: &mut [u32],
     row_mark: &mut [u32],
+    notes: &[u32],
     rows: &mut [u32],
     cell: u64,
     free: usize,
@@ -59,7 +56,7 @@ pub fn take_cell(
     requires { ⌜ TakeAsks (table (now edges) (now reverse) (now area)) (memory (now head) (now cells) (now parent) (now rank) (now «cell_mark») (now «slot_row») (now «slot_cell») (now prev) (now next) (now «row_slot») (now «row_mark»)) (now rows) cell free ⌝ }
     ensures { λ r. ⌜ Takes (table (now (edges .entry)) (now (reverse .entry)) (now (area .entry))) (memory (now (head .entry)) (now (cells .entry)) (now (parent .entry)) (now (rank .entry)) (now («cell_mark» .entry)) (now («slot_row» .entry)) (now («slot_cell» .entry)) (now (prev .entry)) (now (next .entry)) (now («row_slot» .entry)) (now («row_mark» .entry))) cell r (memory (now (head .exit)) (now (cells .exit)) (now (parent .exit)) (now (rank .exit)) (now («cell_mark» .entry)) (now («slot_row» .exit)) (now («slot_cell» .exit)) (now (prev .exit)) (now (next .exit)) (now («row_slot» .exit)) (now («row_mark» .exit))) ⌝ }
 {
-    let outlined = outline_rows(edges, row_mark, rows, cell);
+    let outlined = outline_rows(edges, notes, row_mark, rows, cell);
     let verdict = outline_verdict(outlined, get32(head, 1), free);
     if !is_accepted(verdict) {
         return Taken {
@@ -90,11 +87,4 @@ pub fn take_cell(
         verdict: verdict,
         free: free - count + 2 * pairs,
     }
-}
-
-// Room for the rows of an outline, on the stack of a call.
-pub fn blank_rows() -> [u32; MAX_ROWS]
-    ensures { λ r. ⌜ 65536 ≡ length r ⌝ }
-{
-    [0; MAX_ROWS]
 }

@@ -6,11 +6,8 @@ use Rattle.scope.proofs.RowSearch.{row-is, found-at}
 use Rattle.edge_table.proofs.notes.find_noted.Statement.{statement}
 use Rattle.edge_table.proofs.notes.find_noted.Tie as tie
 
-note-place-requires : tie.Need-note-place-requires
-note-place-requires c κs = search needs
-
-at32-requires : tie.Need-at32-requires
-at32-requires c κs = search needs
+note-of-requires : tie.Need-note-of-requires
+note-of-requires c κs = search needs
 
 mul-if2 : tie.Need-mul-if2
 mul-if2 c = search needs
@@ -19,7 +16,7 @@ shared-slice-read-if2 : tie.Need-shared-slice-read-if2
 shared-slice-read-if2 c = search needs
 
 returns : tie.Need-returns
-returns c = found-at _ _ _ (row-is _ _ (ascending _ (c .before .before .before .before .before .before .before .pre .0)) _ (c .before .before .if1 .taken) (c .if2 .taken)) (c .before .before .if1 .taken)
+returns c = found-at _ _ _ (row-is _ _ (ascending _ (c .before .before .before .before .before .before .pre)) _ (c .before .before .if1 .taken) (c .if2 .taken)) (c .before .before .if1 .taken)
 
 find-row-requires : tie.Need-find-row-requires
 find-row-requires c κs = search needs
@@ -31,8 +28,7 @@ pub find-noted-spec : {M : Type 1} → statement M
 find-noted-spec =
     tie.close
     (tie.spec
-    note-place-requires
-    at32-requires
+    note-of-requires
     mul-if2
     shared-slice-read-if2
     returns

@@ -1,10 +1,10 @@
--- `taking::take::blank_rows` meets its contract. The level and the type of the list are written out: without them the list would be computed.
+-- `taking::scratch::blank_rows` meets its contract. The level and the type of the list are written out: without them the list would be computed.
 -- Assumes nothing.
 use mathlib.Core.Path.{sym}
 use Prim.Native.Nat.{ℕ}
 use lib.ListN.{length-replicate}
-use Rattle.taking.proofs.take.blank_rows.Statement.{statement}
-use Rattle.taking.proofs.take.blank_rows.Tie as tie
+use Rattle.taking.proofs.scratch.blank_rows.Statement.{statement}
+use Rattle.taking.proofs.scratch.blank_rows.Tie as tie
 
 returns : tie.Need-returns
 returns c = sym (length-replicate {0} {A = ℕ} 65536 0)

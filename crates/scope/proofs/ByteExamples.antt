@@ -2,9 +2,10 @@
 -- Assumes nothing.
 use Prim.Native.Nat.{ℕ, _+_, _-_, _*_, _/_, _%_, _^_}
 use mathlib.Core.Path.{_≡_, refl}
-use mathlib.Core.Bool.{Bool, true, false}
+use mathlib.Core.Bool.{Bool, true, false, cond}
 use mathlib.Core.List.{List, [], _∷_, _++_}
 use lib.Ieee as Ieee
+use lib.Dec.{eqb}
 use lib.ListN.{set, take, replicate}
 use Rattle.scope.specs.Lists as Lists
 use Rattle.scope.specs.Lists.{at, tabulateFrom}
@@ -12,6 +13,7 @@ use Rattle.scope.specs.Answers as Answers
 use Rattle.scope.specs.Bytes as Bytes
 use Rattle.scope.specs.Bytes.{Left, u32At, u64At, bytes32, bytes64, joined, tableIn, stateIn, stateBytes, tableFits, listFits, roomFits, zoneDissolving, zoneStanding}
 use Rattle.scope.proofs.Computing as Computing
+use Rattle.scope.proofs.Odd.{edgeNumbers, reverseRows}
 
 -- ---- the definitions, with all that they compute with
 
@@ -125,6 +127,15 @@ offered-is : call (replicate 336 0) 1 first ≡ record { result = 0; state = hel
 unfolding call lent held first joined
 offered-is = refl
 
+-- With the second offered too every pair cancels: both cells, their parents, their ranks, and all else cleared.
+both-is : call held 1 second ≡ record {
+  result = 0;
+  state = bytes32 0 ++ bytes32 2 ++ bytes64 first ++ bytes64 second ++ bytes32 1 ++ bytes32 1 ++ bytes32 0 ++ bytes32 1 ++ replicate 296 0;
+  out = lent;
+}
+unfolding call lent held first second joined
+both-is = refl
+
 -- Read out, it is what dissolve writes. The same cell again is refused by 3 at place 1, a state of another length and an unknown call by 10.
 called : List Left
 unfolding call held first joined
@@ -134,3 +145,24 @@ called-is : called ≡ record { result = 0; state = held; out = hexagon ++ (7 �
     ∷ record { result = 10 * 2 ^ 32; state = 0 ∷ held; out = lent } ∷ record { result = 10 * 2 ^ 32; state = held; out = lent } ∷ []
 unfolding called held first lent joined hexagon
 called-is = refl
+
+-- ---- four rings in two polygons: the two hexagons of the small table Odd that hold a pair of their own
+
+oddRows : List ℕ
+unfolding joined edgeNumbers reverseRows
+oddRows = joined (λ i. bytes64 (at edgeNumbers i) ++ bytes32 (at reverseRows i) ++ bytes64 (cond (eqb i 0) 0x4000000000000000 0x3ff0000000000000)) 24
+
+-- Two polygons, four rings, eight edges, the first outer area 2; start, length, group and area of each ring; the edges.
+fourRings : List ℕ
+unfolding joined
+fourRings =
+    bytes32 2 ++ bytes32 2 ++ bytes32 4 ++ bytes32 8 ++ bytes64 0x4000000000000000
+    ++ bytes32 0 ++ bytes32 1 ++ bytes32 1 ++ bytes64 0x4000000000000000
+    ++ bytes32 1 ++ bytes32 3 ++ bytes32 1 ++ bytes64 0x4008000000000000
+    ++ bytes32 4 ++ bytes32 2 ++ bytes32 0 ++ bytes64 0x4000000000000000
+    ++ bytes32 6 ++ bytes32 2 ++ bytes32 0 ++ bytes64 0x4000000000000000
+    ++ joined (λ i. bytes32 (at (0 ∷ 4 ∷ 12 ∷ 20 ∷ 1 ∷ 17 ∷ 5 ∷ 21 ∷ []) i)) 8
+
+rings-are : dissolve oddRows (bytes64 second ++ bytes64 first) (replicate 136 7) 0 10 3 ≡ record { result = 0; state = []; out = fourRings }
+unfolding dissolve oddRows fourRings first second joined edgeNumbers reverseRows
+rings-are = refl

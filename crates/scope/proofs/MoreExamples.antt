@@ -50,6 +50,9 @@ bounds =
     -- the outlines are those that real tables show
     ∷ walks 0x872830828ffffff 9 54 islandOfOdd []
     ∷ walks 0x08009fffffffffff 2 45 islandOfPentagon []
+    -- a finer pentagon, and a hexagon beside it under the same base cell
+    ∷ walks 0x081083ffffffffff 1 5 (3 ∷ 5 ∷ 4 ∷ 6 ∷ 2 ∷ []) []
+    ∷ walks 0x08108bffffffffff 1 6 (3 ∷ 1 ∷ 5 ∷ 4 ∷ 6 ∷ 2 ∷ []) []
     -- −∞, −1, 0, 1, ∞, NaN; then both zeros, and NaN with itself
     ∷ compares (0xfff0000000000000 ∷ 0xbff0000000000000 ∷ 0 ∷ 0x3ff0000000000000 ∷ 0x7ff0000000000000 ∷ 0x7ff8000000000000 ∷ [])
     (0 ∷ 0x8000000000000000 ∷ [])
@@ -119,6 +122,9 @@ states =
     -- polygons and rings of equal area go by lowest row
     ∷ reads (even odd 10 3 4 8 (second ∷ first ∷ [])) (outlined 2 (0 ∷ 4 ∷ 1 ∷ 5 ∷ []) (1 ∷ 3 ∷ 2 ∷ 2 ∷ []) (1 ∷ 1 ∷ 0 ∷ 0 ∷ [])
     (0x4000000000000000 ∷ 0x4008000000000000 ∷ 0x4000000000000000 ∷ 0x4000000000000000 ∷ []))
+    -- polygons by outer area, the larger first
+    ∷ reads (even seven 28 7 3 30 (0x89283082807ffff ∷ 0x8928308280bffff ∷ []))
+    (outlined 2 (2 ∷ 1 ∷ []) (6 ∷ 6 ∷ []) (1 ∷ 0 ∷ []) (0x3e27272577360000 ∷ 0x3e2726c7f4dd0000 ∷ []))
     -- a slot, a record or a row less
     ∷ dissolves (even odd 9 3 4 8 (second ∷ first ∷ [])) (refused 7 1)
     ∷ dissolves (even odd 10 3 3 8 (second ∷ first ∷ [])) (refused 10 0)
@@ -135,6 +141,11 @@ states =
     ∷ refuses (even odd 9 3 4 8 (first ∷ [])) second 7 1
     -- the new cell is united with the held one, in that order, and the rank grows also where ranks are unequal
     ∷ unites (even seven 28 7 3 30 (take 3 around)) (1 ∷ 1 ∷ 1 ∷ 0 ∷ 0 ∷ 0 ∷ 0 ∷ []) (0 ∷ 2 ∷ 0 ∷ 0 ∷ 0 ∷ 0 ∷ 0 ∷ [])
+    -- where a cell meets two groups, in walk order; and a union halves the paths that it climbs
+    ∷ unites (even seven 28 7 3 30 (0x89283082877ffff ∷ 0x8928308283bffff ∷ 0x89283082803ffff ∷ 0x89283082807ffff ∷ []))
+    (1 ∷ 1 ∷ 1 ∷ 1 ∷ 0 ∷ 0 ∷ 0 ∷ []) (0 ∷ 3 ∷ 0 ∷ 0 ∷ 0 ∷ 0 ∷ 0 ∷ [])
+    ∷ unites (even seven 28 7 3 30 (0x89283082877ffff ∷ 0x89283082803ffff ∷ 0x89283082807ffff ∷ 0x8928308280fffff ∷ []))
+    (3 ∷ 3 ∷ 3 ∷ 3 ∷ 0 ∷ 0 ∷ 0 ∷ []) (0 ∷ 0 ∷ 1 ∷ 2 ∷ 0 ∷ 0 ∷ 0 ∷ [])
     -- 9: mode, count; held cells valid, unequal, of the target's resolution
     ∷ breaks (two 4 8) [] 0
     ∷ breaks (two 4 8) (put head 0 2 ∷ []) 9
@@ -143,6 +154,8 @@ states =
     ∷ breaks (two 4 8) (put head 1 3 ∷ put cells 2 first ∷ put parent 2 2 ∷ []) 9
     ∷ breaks (two 4 8) (put head 1 3 ∷ put cells 2 underFirst ∷ put parent 2 2 ∷ []) 9
     ∷ breaks (two 4 8) (put head 1 3 ∷ put cells 2 third ∷ put parent 2 2 ∷ []) 0
+    -- what stands past the held cells is not read
+    ∷ breaks (two 4 8) (put cells 2 7 ∷ put parent 2 7 ∷ put rank 2 7 ∷ []) 0
     -- a row's slot: past the pool, free, another's; none though a slot holds the row
     ∷ breaks (two 4 8) (put rowSlot 2 12 ∷ []) 9
     ∷ breaks (two 4 8) (put rowSlot 2 11 ∷ []) 9

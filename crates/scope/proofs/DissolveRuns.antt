@@ -20,7 +20,7 @@ use Rattle.scope.proofs.Run.{all-accept, all-none, read-leaves}
 use Rattle.scope.proofs.Dissolving.{dissolve-calls, dissolve-is, reading-accepted}
 
 module _ (t : Table) where
-  open-left : (mode : ℕ) (calls : List Call) (h : History) → openVerdict t (h .memory) mode ≡ verdict.Accepted
+  pub open-left : (mode : ℕ) (calls : List Call) (h : History) → openVerdict t (h .memory) mode ≡ verdict.Accepted
       → run t (opens mode ∷ calls) h ≡ run t calls (record { memory = opened mode (h .memory); cells = [] })
   unfolding run leaves accepted opening
   open-left mode calls h e =

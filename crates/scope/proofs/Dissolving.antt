@@ -16,7 +16,7 @@ use Rattle.scope.specs.declared.Verdict.the-variants as verdict
 use Rattle.scope.specs.Answers.{require, _▷_, verdictOf}
 use Rattle.scope.specs.Table.{Table, targetOf, tableVerdict, outlineRows}
 use Rattle.scope.specs.CellLists.{listVerdict, cellVerdict}
-use Rattle.scope.specs.Memory.{Memory, Output, keptMode, held, heldCells, places, opened, kept, lengthsFit, modeFits, outputsAgree}
+use Rattle.scope.specs.Memory.{Memory, Output, keptMode, held, heldCells, places, slots, opened, kept, lengthsFit, modeFits, outputsAgree}
 use Rattle.scope.specs.Order.{view}
 use Rattle.scope.specs.Pool.{outlineVerdict, taking}
 use Rattle.scope.specs.Calls.{Outcome, openVerdict, stateVerdict, offerVerdict, Reading, readFrom, reading, readVerdict, readingOut, outputFits, offeringAll, dissolveVerdict, working, dissolving}
@@ -47,21 +47,25 @@ opened-mode : (m : Memory) (mode : ℕ) → keptMode (opened mode m) ≡ kept mo
 unfolding opened
 opened-mode m mode = refl
 
-opened-places : (m : Memory) (mode : ℕ) → places (opened mode m) ≡ places m
+pub opened-places : (m : Memory) (mode : ℕ) → places (opened mode m) ≡ places m
 unfolding opened
 opened-places m mode = zeros-length (m .cells)
 
+pub opened-slots : (m : Memory) (mode : ℕ) → slots (opened mode m) ≡ slots m
+unfolding opened
+opened-slots m mode = zeros-length (m .slotRow)
+
 -- what open has tested
 module _ (t : Table) (m : Memory) (mode : ℕ) (e : openVerdict t m mode ≡ verdict.Accepted) where
-  open-table : tableVerdict t ≡ verdict.Accepted
+  pub open-table : tableVerdict t ≡ verdict.Accepted
   unfolding openVerdict
   open-table = second-accepts (require (lengthsFit t m && modeFits mode) 10 0) _ e
 
-  open-lengths : Lengths t m
+  pub open-lengths : Lengths t m
   unfolding openVerdict
   open-lengths = lengths-good t m (and-left (lengthsFit t m) (modeFits mode) (require-holds _ 10 0 (first-accepts _ _ e)))
 
-  open-shown : Shown t (opened mode m) []
+  pub open-shown : Shown t (opened mode m) []
   open-shown = opened-shown t m mode open-table open-lengths
 
   module _ (xs : List ℕ) (a : offeringAll t (opened mode m) xs .answer ≡ verdict.Accepted) where

@@ -29,6 +29,7 @@ pub mod OwnOutline
 pub mod Tables
 pub mod RowSearch
 pub mod Verdicts
+pub mod OneOutcome
 pub mod CellLists
 pub mod CellOffers
 pub mod Owning
@@ -89,11 +90,20 @@ pub mod TakingStates
 pub mod TakingShows
 pub mod Run
 pub mod Untouched
+pub mod SlotsLeft
 pub mod ViewsAlike
 pub mod WhateverOrder
 pub mod Dissolving
 pub mod DissolveRuns
+pub mod Begun
 pub mod ShownAfresh
+pub mod Counts
+pub mod RingsLeft
+-- The bytes of the host
+pub mod RoundTrip
+pub mod PastHeld
+pub mod ByteStates
+pub mod ByteRuns
 -- The worked examples
 pub mod Computing
 pub mod ExampleKinds

@@ -162,7 +162,7 @@ group-held parent n c h =
     passes-fails same n (passes-not same n c h (ap not (eq-eqb (rootOf parent c) (rootOf parent c) refl)))
 
 module _ {t : Table} {m : Memory} (s : Sound t m) where
-  ring-held : (r : ℕ) → List·Memᴰ r (lowestRows (view t m)) → groupAt (view t m) r < held m
+  pub ring-held : (r : ℕ) → List·Memᴰ r (lowestRows (view t m)) → groupAt (view t m) r < held m
   unfolding startsRing
   ring-held r i =
       let L = sound-linked s in

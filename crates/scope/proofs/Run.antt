@@ -108,7 +108,7 @@ module _ (t : Table) where
       go false false some e = e
 
   -- dissolve, after its list checks
-  work-shown : (m : Memory) (mode : ℕ) (xs : List ℕ) (o : Output) → Shown t (opened mode m) []
+  pub work-shown : (m : Memory) (mode : ℕ) (xs : List ℕ) (o : Output) → Shown t (opened mode m) []
       → Shown t (working t m mode xs o .left) (ifAccepted (verdictOf (working t m mode xs o .answer)) xs [])
   unfolding working
   work-shown m mode xs o S = go (last .answer ▷ require (outputFits (view t (last .left)) o) 10 0) refl

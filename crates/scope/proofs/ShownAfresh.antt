@@ -74,7 +74,7 @@ module _ {t : Table} {m : Memory} {cs : List ℕ} (S : Shown t m cs) where
       ap (λ (n : ℕ). below (startsRing n (hasSlot m) (rowAfter m)) n) (S .sound .lengths .row-slot)
       ∙ below-same (startsRing (rowCount t) (hasSlot m) (rowAfter m)) (startsRing (rowCount t) standing (successor t cs)) (rowCount t) (λ r h. start r)
 
-  starts-have : All (λ r. hasSlot m r ≡ true) (lowestRows (view t m))
+  pub starts-have : All (λ r. hasSlot m r ≡ true) (lowestRows (view t m))
   starts-have = all-mem (λ r. hasSlot m r ≡ true) (lowestRows (view t m)) (λ r i.
       let n = length (m .rowSlot) in
       starts-stand (view-turns S) r (mem-below (startsRing n (hasSlot m) (rowAfter m)) n r i .1))

@@ -30,7 +30,7 @@ use Rattle.scope.proofs.Sound.{Sound, sound-reverses, Offered, offered,
 use Rattle.scope.proofs.Taking.{placedFor, onePlaceMore, pairsMet, placed-parents, taken-parent, taken-cell-mark, taken-row-mark, taken-cancelled, taken-head, taken-held, taken-mode, taken-room, taken-cells, offered-placed, offered-linked, taken-linked, placed-cell, placed-owned, taken-forest}
 
 module _ {t : Table} {m : Memory} {x : ℕ} (O : Offered t m x) where
-  pool-same : slots (taking t m x) ≡ slots m
+  pub pool-same : slots (taking t m x) ≡ slots m
   pool-same = taken-cancelled t m x .pool ∙ offered-placed O .pool
 
   pub taken-lengths : Lengths t (taking t m x)

@@ -28,7 +28,7 @@ module _ {t : Table} {m : Memory} (L : Linked t m) where
   after-has a h = row-has L (at (m .next) (slotOf m a)) (L .next-used (slotOf m a) (slot-used L a h))
 
   -- the slot of the next row, and the slot before it
-  slot-after : (a : ℕ) → Has m a → slotOf m (rowAfter m a) ≡ at (m .next) (slotOf m a)
+  pub slot-after : (a : ℕ) → Has m a → slotOf m (rowAfter m a) ≡ at (m .next) (slotOf m a)
   slot-after a h = slot-row L (at (m .next) (slotOf m a)) (L .next-used (slotOf m a) (slot-used L a h))
 
   slot-before : (a : ℕ) → Has m a → at (m .prev) (slotOf m (rowAfter m a)) ≡ slotOf m a
@@ -46,7 +46,7 @@ module _ {t : Table} {m : Memory} (L : Linked t m) where
 
 module _ {t : Table} {m : Memory} {x : ℕ} (O : Offered t m x) where
   -- a row whose reverse is not in the new outline keeps its slot
-  kept : (a : ℕ) → Has m a → (List·Memᴰ (reverseOf t a) (outlineRows t x) → ⊥) → Has (placedFor t m x) a × (Has (placedFor t m x) (reverseOf t a) → ⊥)
+  pub kept : (a : ℕ) → Has m a → (List·Memᴰ (reverseOf t a) (outlineRows t x) → ⊥) → Has (placedFor t m x) a × (Has (placedFor t m x) (reverseOf t a) → ⊥)
   kept a h n = (taken-beside O .rows .old a h, λ k. go (taken-beside O .rows .either (reverseOf t a) k))
     where
       go : Has m (reverseOf t a) ⊎ List·Memᴰ (reverseOf t a) (outlineRows t x) → ⊥

@@ -12,8 +12,8 @@
 //!
 //! Rows, cells, results and outputs are those of the byte entry points. Every list lies in the domain of the runs, and its answer is the
 //! oracle's: the refusal's kind, or polygons, rings, areas and order. What the Rust doesn't answer comes from document 01's rules: a
-//! refusal's index, and the number that a group is written as. `runs list > answers.list` has made the file beside this crate's sources, and
-//! makes the same one again; the runs replay it first of all, also where the Rust's texts are not at hand.
+//! refusal's index, and the number that a group is written as. `runs list > crates/replay/data/answers.list` has made the file, and makes the
+//! same one again. The program `replay` puts it to the proved code with no Rust at hand, and the runs replay it first of all.
 use crate::{
     problem::{Counts, Problem, run},
     random::Random,
@@ -66,7 +66,7 @@ pub fn write(folder: &Folder) -> Result<(), String> {
 
 /// Puts the list of the repository to the library; how many answers it has.
 pub fn replay() -> Result<u32, String> {
-    let path = concat!(env!("CARGO_MANIFEST_DIR"), "/answers.list");
+    let path = concat!(env!("CARGO_MANIFEST_DIR"), "/../../crates/replay/data/answers.list");
     let bytes = fs::read(path).map_err(|error| format!("{path}: {error}"))?;
     let (mut rest, mut table, mut dissolves) = (bytes.as_slice(), [].as_slice(), 0);
     while rest.len() >= RECORD {

@@ -1,0 +1,116 @@
+// The records of the list. A head of 32 bytes has the kind (1 a table, 2 a dissolve on the last table, 0 the end), the mode or, at the
+// end, the number of dissolves, slots, places, the result, and the lengths of the input and the output that follow it.
+use codec::read_u32;
+use codec::read_u64;
+use host::bytes::zone_dissolve;
+ghost use mathlib.Core.Path.{_≡_};
+ghost use Prim.Native.Nat.{_+_, _≤_, _<_, _^_};
+ghost use lib.ListN.{length};
+
+pub struct Tally {
+    pub answers: u64,
+    pub otherwise: u64,
+    pub told: u64,
+}
+
+fn wide(x: u32) -> usize
+    ensures { λ r. ⌜ r < 2 ^ 32 ⌝ }
+{
+    x as usize
+}
+
+fn same(a: &[u8], b: &[u8]) -> bool {
+    if a.len() != b.len() {
+        return false;
+    }
+    let mut i: usize = 0;
+    while i < a.len() {
+        if a[i] != b[i] {
+            return false;
+        }
+        i += 1;
+    }
+    true
+}
+
+fn output_room() -> [u8; 24624]
+    ensures { λ r. ⌜ 24624 ≡ length r ⌝ }
+{
+    [0; 24624]
+}
+
+// The list of cells is answered as the record has it: by its result, and by every byte of its output.
+fn is_answered(head: &[u8], table: &[u8], cells: &[u8], answer: &[u8]) -> bool
+    requires { ⌜ 32 ≤ length (now head) ⌝ }
+{
+    let mut out = output_room();
+    if 24624 < answer.len() {
+        return false;
+    }
+    let written = &mut out[..answer.len()];
+    let result = zone_dissolve(
+        table,
+        cells,
+        written,
+        read_u32(head, 4),
+        read_u32(head, 8),
+        read_u32(head, 12),
+    );
+    (result == read_u64(head, 16)) & same(written, answer)
+}
+
+fn one_unless(answered: bool) -> u64
+    ensures { λ r. ⌜ r ≤ 1 ⌝ }
+{
+    if answered { 0 } else { 1 }
+}
+
+// Replays the list up to its end record, or to a record that is cut off.
+pub fn replay(list: &[u8]) -> Tally {
+    let mut answers: u64 = 0;
+    let mut otherwise: u64 = 0;
+    let mut table: usize = 0;
+    let mut table_end: usize = 0;
+    let mut at: usize = 0;
+    while at + 32 <= list.len() {
+        let input = at + 32;
+        let head = &list[at..input];
+        let size = wide(read_u32(head, 24));
+        let room = wide(read_u32(head, 28));
+        if list.len() < input + size + room {
+            return Tally {
+                answers: answers,
+                otherwise: otherwise,
+                told: 0,
+            };
+        }
+        let output = input + size;
+        at = output + room;
+        let kind = read_u32(head, 0);
+        if kind == 0 {
+            return Tally {
+                answers: answers,
+                otherwise: otherwise,
+                told: read_u32(head, 4) as u64,
+            };
+        }
+        if kind == 1 {
+            table = input;
+            table_end = output;
+        } else {
+            let answered = is_answered(
+                head,
+                &list[table..table_end],
+                &list[input..output],
+                &list[output..at],
+            );
+            answers += 1;
+            otherwise += one_unless(answered);
+        }
+    }
+    Tally {
+        answers: answers,
+        otherwise: otherwise,
+        told: 0,
+    }
+}

@@ -66,14 +66,17 @@ fn ring(line: &LineString) -> Ring {
     Ring { rows: math::rows_of(line.0.iter().map(|c| c.x)), area: math::linear_ring_area(&line.0) }
 }
 
-/// Equal areas go by lowest row; the crate leaves their order open.
+/// Equal areas go by lowest row; the crate leaves their order open. All else must be in the crate's own order, so that it is compared too.
 fn settle_ties(answer: Answer) -> Answer {
     let Answer::Outline(mut polygons) = answer else {
         return answer;
     };
+    let outer = |p: &Vec<Ring>| Reverse(OrderedFloat(p[0].area));
+    assert!(polygons.is_sorted_by_key(outer), "the crate orders polygons by the area of their outer");
     for rings in &mut polygons {
+        assert!(rings.is_sorted_by_key(|r| OrderedFloat(r.area)), "the crate orders rings by area");
         rings.sort_by_key(|r| (OrderedFloat(r.area), r.rows[0]));
     }
-    polygons.sort_by_key(|p| (Reverse(OrderedFloat(p[0].area)), p[0].rows[0]));
+    polygons.sort_by_key(|p| (outer(p), p[0].rows[0]));
     Answer::Outline(polygons)
 }

@@ -15,7 +15,7 @@
 //! refusal's index, and the number that a group is written as. `runs list > crates/replay/data/answers.list` has made the file, and makes the
 //! same one again. The program `replay` puts it to the proved code with no Rust at hand, and the runs replay it first of all.
 use crate::{
-    problem::{Counts, Problem, run},
+    problem::{AGAINST_THE_RUST, Counts, Problem, run},
     random::Random,
     rules::bytes::{self, HEAD, cell_bytes, table_bytes},
     sections::{dissolve_call, fault, good_list},
@@ -132,7 +132,7 @@ impl List {
         problem.calls.push(dissolve_call(&problem, mode, cells));
         let mut counts = Counts::default();
         run(&problem, &mut counts)?;
-        if !counts.0.contains_key("against the Rust") {
+        if !counts.0.contains_key(AGAINST_THE_RUST) {
             return Ok(());
         }
         let input = cell_bytes(cells);

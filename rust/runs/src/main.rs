@@ -14,7 +14,7 @@ mod tables;
 
 use random::Random;
 use report::Report;
-use sections::{Context, SECTIONS};
+use sections::{ASK_THE_RUST, Context, SECTIONS};
 use std::{env, path::PathBuf, process::ExitCode};
 use tables::real::Folder;
 
@@ -98,7 +98,7 @@ fn compare(arguments: &Arguments, names: &[&str]) -> Result<(), String> {
         let mut context = Context { random, rounds: arguments.rounds, folder: &arguments.folder };
         let mut report = Report::new(name);
         section(&mut context, &mut report)?;
-        report.close();
+        report.close(oracle::AVAILABLE && ASK_THE_RUST.contains(name))?;
     }
     Ok(())
 }

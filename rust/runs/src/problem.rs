@@ -75,6 +75,9 @@ impl Problem {
     }
 }
 
+/// How an answer is counted that the Rust gives too.
+pub const AGAINST_THE_RUST: &str = "against the Rust";
+
 /// How often each outcome was met.
 #[derive(Default)]
 pub struct Counts(pub BTreeMap<String, usize>);
@@ -215,7 +218,7 @@ impl Runner<'_> {
         }
         if let Some(lent) = &self.oracle {
             match lent.compare(kept, self.table.target(), cells, &defined)? {
-                Compared::Same => self.counts.add("against the Rust"),
+                Compared::Same => self.counts.add(AGAINST_THE_RUST),
                 Compared::LeftOut(why) => self.counts.add(format!("left out ({why})")),
             }
         }

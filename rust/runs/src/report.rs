@@ -1,6 +1,6 @@
 //! What a section tells: a progress line, a line of counts, and at the first difference the smallest problem that shows it.
 use crate::{
-    problem::{Counts, Problem, run},
+    problem::{AGAINST_THE_RUST, Counts, Problem, run},
     shrink::shrink,
 };
 use std::{
@@ -43,8 +43,13 @@ impl Report {
         }
     }
 
-    pub fn close(&self) {
+    /// The line of counts. A section in which nothing was compared has told nothing.
+    pub fn close(&self, asks_the_rust: bool) -> Result<(), String> {
+        if self.problems == 0 || asks_the_rust && !self.counts.0.contains_key(AGAINST_THE_RUST) {
+            return Err(format!("{}: nothing was compared ({})", self.section, self.counts));
+        }
         let seconds = self.started.elapsed().as_secs_f64();
         println!("{}: {} problems, no difference, {seconds:.1} s ({})", self.section, self.problems, self.counts);
+        Ok(())
     }
 }

@@ -11,6 +11,7 @@ use crate::{
         pool,
         table::Table,
     },
+    subject,
     tables::{
         Given, part,
         torus::{base_cell, torus},
@@ -42,6 +43,10 @@ fn flower(given: &Given, report: &mut Report) -> Result<(), String> {
     let mut cells = neighbours(centre);
     cells.push(centre);
     for slots in 26..=31 {
+        let taken = taken_in_turn(given, &cells, slots);
+        if taken != [5, 5, 6, 6, 7, 7][slots as usize - 26] {
+            return Err(format!("boundary: T8 and T9: {taken} cells fit in {slots} slots"));
+        }
         let mut problem = Problem::new(&given.table, slots, 7, true);
         problem.calls.push(Call::open(0));
         for cell in &cells {
@@ -55,6 +60,14 @@ fn flower(given: &Given, report: &mut Report) -> Result<(), String> {
         report.check(&problem)?;
     }
     Ok(())
+}
+
+/// How many cells the library takes before it refuses the first one.
+fn taken_in_turn(given: &Given, cells: &[u64], slots: u32) -> usize {
+    let table = bytes::table_bytes(&given.table);
+    let mut state = vec![0; Memory::bytes(given.table.rows(), slots as usize, cells.len())];
+    let mut offer = |cell: u64| subject::standing(&table, &mut state, &mut [], slots, cells.len() as u32, 1, cell);
+    cells.iter().take_while(|cell| offer(**cell) == 0).count()
 }
 
 /// Tables of no row, of few rows and of about 1,024; an odd one has a last row without a reverse.

@@ -3,6 +3,7 @@
 use super::{Context, Report, fault, good_list};
 use crate::{
     oracle_answer::{self, Compared, Lent},
+    problem::AGAINST_THE_RUST,
     random::Random,
     rules::{
         afresh,
@@ -216,7 +217,7 @@ impl<'a> Calls<'a> {
         };
         if let Some(lent) = self.lent {
             match lent.compare(kept, table.target(), list, &defined)? {
-                Compared::Same => self.report.counts.add("against the Rust"),
+                Compared::Same => self.report.counts.add(AGAINST_THE_RUST),
                 Compared::LeftOut(why) => self.report.counts.add(format!("left out ({why})")),
             }
         }

@@ -46,6 +46,9 @@ pub const SECTIONS: [(&str, Section); 10] = [
     ("full", full::run),
 ];
 
+/// Those in which the Rust is asked as well, apart from `odd` and `pool`, which are about nothing else.
+pub const ASK_THE_RUST: [&str; 7] = ["walk", "short", "dissolve", "standing", "boundary", "damage", "full"];
+
 /// As many slots and places as the byte entry points take.
 const SLOTS: u32 = 1024;
 const PLACES: u32 = 256;

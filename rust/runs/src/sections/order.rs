@@ -25,9 +25,12 @@ pub fn run(context: &mut Context, report: &mut Report) -> Result<(), String> {
             replayed.push(*cell);
             replayed.push(list[random.below(i + 1)]);
         }
-        let [(state, out), (_, other_out), (replayed_state, _)] =
+        let [(taken, state, out), (other_taken, _, other_out), (replayed_taken, replayed_state, _)] =
             [&list, &other, &replayed].map(|cells| outcome(given, mixed, cells));
         let words = || format!("{}, {} mode, cells {list:016x?}", given.name, if mixed { "mixed" } else { "even" });
+        if [taken, other_taken, replayed_taken] != [Some(list.len()); 3] {
+            return Err(format!("order: a cell of a good list is refused, or a replay accepted: {}", words()));
+        }
         if state != replayed_state {
             return Err(format!("order: a replay left something behind: {}", words()));
         }
@@ -40,18 +43,19 @@ pub fn run(context: &mut Context, report: &mut Report) -> Result<(), String> {
     Ok(())
 }
 
-/// State and output after these offers, whether accepted or not.
-fn outcome(given: &Given, mixed: bool, cells: &[u64]) -> (Vec<u8>, Vec<u8>) {
+/// How many of these offers are accepted, where the others are refused as replays and the two other calls are carried out; state and
+/// output afterwards.
+fn outcome(given: &Given, mixed: bool, cells: &[u64]) -> (Option<usize>, Vec<u8>, Vec<u8>) {
     let table = table_bytes(&given.table);
     let mut state = vec![0; Memory::bytes(given.table.rows(), SLOTS as usize, PLACES as usize)];
     let mut out = vec![0; HEAD + 24 * given.table.rows()];
     let mut call = |call: u32, value: u64| subject::standing(&table, &mut state, &mut out, SLOTS, PLACES, call, value);
-    call(0, mixed.into());
-    for cell in cells {
-        call(1, *cell);
-    }
-    call(2, 0);
-    (state, out)
+    let opened = call(0, mixed.into());
+    let offered = cells.iter().map(|cell| call(1, *cell)).collect::<Vec<_>>();
+    let read = call(2, 0);
+    let as_expected = opened == 0 && read == 0 && offered.iter().all(|answer| [0, 3].contains(&(answer >> 32)));
+    let taken = offered.iter().filter(|answer| **answer == 0).count();
+    (as_expected.then_some(taken), state, out)
 }
 
 /// The output with its groups, which are numbered by places, numbered by their first ring.

@@ -53,13 +53,14 @@ mod beside {
             self.rust.slots - self.rust.free - self.standing
         }
 
-        /// Our slots add up, the Rust loses them by pairs, and the groups are the same.
+        /// Our slots add up, the Rust loses them by pairs, groups and ranks are the same, and so are the parents where no pair was skipped.
         fn check(&self, name: &str, list: &[u64]) -> Result<(), String> {
             let fits = self.ours.free_slots().count() + self.standing == self.ours.slots();
-            if fits && self.lost() % 2 == 0 && self.same_groups() && self.same_ranks() {
+            let same_parents = self.lost() > 0 || self.our_parents() == self.rust.parents;
+            if fits && self.lost() % 2 == 0 && self.same_groups() && self.same_ranks() && same_parents {
                 return Ok(());
             }
-            Err(format!("pool: slots, groups or ranks do not fit: {name}, {list:016x?}"))
+            Err(format!("pool: slots, groups, ranks or parents do not fit: {name}, {list:016x?}"))
         }
 
         fn same_ranks(&self) -> bool {

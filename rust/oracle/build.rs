@@ -14,10 +14,8 @@ const TEXTS: [(&str, &str); 5] = [
 fn main() {
     println!("cargo::rerun-if-env-changed=H3O_SRC");
     println!("cargo::rustc-check-cfg=cfg(h3o)");
-    let source = env::var("H3O_SRC").map_or_else(
-        |_| Path::new(env!("CARGO_MANIFEST_DIR")).join("../../../shared/docs/src"),
-        PathBuf::from,
-    );
+    let source = env::var("H3O_SRC")
+        .map_or_else(|_| Path::new(env!("CARGO_MANIFEST_DIR")).join("../../../shared/docs/src"), PathBuf::from);
     println!("cargo::rerun-if-changed={}", source.display());
     if !source.join(TEXTS[0].1).exists() {
         return;

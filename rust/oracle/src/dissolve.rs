@@ -43,11 +43,9 @@ pub enum Answer {
 
 /// What the unchanged texts answer, with ties in document 01's order.
 pub fn dissolve(table: &Table, mode: Mode, cells: &[u64]) -> Answer {
-    lend(table, || {
-        match mode.solvent().dissolve(cells.iter().map(|cell| CellIndex(*cell))) {
-            Err(error) => Answer::Refused(error),
-            Ok(geometry) => settle_ties(read(&geometry)),
-        }
+    lend(table, || match mode.solvent().dissolve(cells.iter().map(|cell| CellIndex(*cell))) {
+        Err(error) => Answer::Refused(error),
+        Ok(geometry) => settle_ties(read(&geometry)),
     })
 }
 

@@ -29,10 +29,7 @@ pub enum Resolution {
 
 const RESOLUTIONS: [Resolution; 16] = {
     use Resolution::*;
-    [
-        Zero, One, Two, Three, Four, Five, Six, Seven, Eight, Nine, Ten, Eleven, Twelve, Thirteen,
-        Fourteen, Fifteen,
-    ]
+    [Zero, One, Two, Three, Four, Five, Six, Seven, Eight, Nine, Ten, Eleven, Twelve, Thirteen, Fourteen, Fifteen]
 };
 
 impl Resolution {

@@ -48,9 +48,6 @@ mod arc_set {
 /// The pool after these cells, on a table that is lent to the stand-ins.
 pub fn pool(table: &oracle::table::Table, cells: &[u64], target: u32) -> Option<Pool> {
     let target = Resolution::new(u8::try_from(target).ok()?)?;
-    let cells = cells
-        .iter()
-        .map(|cell| CellIndex(*cell))
-        .collect::<Vec<_>>();
+    let cells = cells.iter().map(|cell| CellIndex(*cell)).collect::<Vec<_>>();
     Some(oracle::table::lend(table, || arc_set::pool(&cells, target)))
 }

@@ -7,9 +7,7 @@ pub struct OrderedFloat<T>(pub T);
 impl Ord for OrderedFloat<f64> {
     #[inline]
     fn cmp(&self, other: &Self) -> Ordering {
-        self.0
-            .partial_cmp(&other.0)
-            .unwrap_or_else(|| self.0.is_nan().cmp(&other.0.is_nan()))
+        self.0.partial_cmp(&other.0).unwrap_or_else(|| self.0.is_nan().cmp(&other.0.is_nan()))
     }
 }
 

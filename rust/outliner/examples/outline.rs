@@ -1,7 +1,7 @@
 //! The outline of a zone: `cargo run --offline -p outliner --example outline -- ../samples/city.table ../samples/zone.cells`
 //!
 //! The table has rows of 20 bytes (edge, row of its reverse, bits of its area term, least byte first); the list has a cell a line in
-//! hexadecimal, and lines that begin with # are passed over. samples/README.md says more.
+//! hexadecimal, with or without 0x, and what # begins is passed over. samples/README.md says more.
 use outliner::{Dissolution, EdgeTable, Polygon, SolventBuilder};
 use std::{env, error::Error, fs, process::ExitCode};
 
@@ -18,9 +18,14 @@ fn table(bytes: &[u8]) -> Option<EdgeTable> {
     Some(EdgeTable::new(columns.0, columns.1, columns.2))
 }
 
+/// What stands on a line before its comment.
+fn word(line: &str) -> &str {
+    line.split('#').next().unwrap_or_default().trim()
+}
+
 fn cells(text: &str) -> Result<Vec<u64>, std::num::ParseIntError> {
-    let lines = text.lines().map(str::trim).filter(|line| !line.is_empty() && !line.starts_with('#'));
-    lines.map(|line| u64::from_str_radix(line.trim_start_matches("0x"), 16)).collect()
+    let words = text.lines().map(word).filter(|word| !word.is_empty());
+    words.map(|word| u64::from_str_radix(word.strip_prefix("0x").unwrap_or(word), 16)).collect()
 }
 
 fn show(number: usize, polygon: &Polygon) {

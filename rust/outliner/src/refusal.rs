@@ -122,7 +122,7 @@ impl fmt::Display for Refusal {
                 write!(f, "a side of cell {index} is not in the edge table: take a table that covers the zone")
             }
             Self::EdgeTwice { index } => {
-                write!(f, "the outline of cell {index} names an edge twice: take a table of a finer resolution")
+                write!(f, "the outline of cell {index} names an edge twice: report it with the table and the cell")
             }
             Self::PoolFull { index } => {
                 write!(f, "no room for the outline of cell {index}: open the zone with more slots")

@@ -60,8 +60,9 @@ impl SolventBuilder {
             table,
             // As in h3o, a builder that names no mode means the even one.
             mode: if self.heterogeneous { 1 } else { 2 },
-            slots: self.slots.unwrap_or(table.rows()),
-            places: self.capacity.unwrap_or(table.rows().min(MOST_CELLS)),
+            // Of a table with too few rows or too many the default is in range, so that it is refused for its rows.
+            slots: self.slots.unwrap_or(table.rows().clamp(1, MOST_SLOTS)),
+            places: self.capacity.unwrap_or(table.rows().clamp(1, MOST_CELLS)),
         }
     }
 }

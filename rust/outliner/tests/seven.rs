@@ -120,13 +120,42 @@ fn a_bad_table_is_refused_by_its_lowest_bad_row() {
     assert_eq!(refused, Err(Refusal::BadTable { row: 7 }));
     let short = EdgeTable::new(good.edges().to_vec(), Vec::new(), good.area().to_vec());
     assert_eq!(SolventBuilder::new().build(&short).dissolve([CENTRE]), Err(Refusal::BadLengths));
-    let none = EdgeTable::new(Vec::new(), Vec::new(), Vec::new());
-    assert_eq!(SolventBuilder::new().slots(1).capacity(1).build(&none).dissolve([]), Err(Refusal::BadTable { row: 0 }));
+}
+
+#[test]
+fn a_table_with_too_few_rows_or_too_many_is_refused_for_them() {
+    for rows in [0, 1, 65_537] {
+        let table = EdgeTable::new(vec![0; rows], vec![0; rows], vec![0.; rows]);
+        let solvent = SolventBuilder::new().build(&table);
+        assert_eq!(solvent.dissolve([]), Err(Refusal::BadTable { row: 0 }));
+        assert_eq!(solvent.open().err(), Some(Refusal::BadTable { row: 0 }));
+    }
 }
 
 #[test]
 fn a_refusal_has_its_number_its_index_and_advice() {
-    let refusal = Refusal::PoolFull { index: 5 };
-    assert_eq!((refusal.number(), refusal.index()), (7, Some(5)));
-    assert_eq!(refusal.to_string(), "no room for the outline of cell 5: open the zone with more slots");
+    let index = 5;
+    let indexed = [
+        Refusal::BadTable { row: index },
+        Refusal::InvalidCell { index },
+        Refusal::DuplicateInput { index },
+        Refusal::UnsupportedResolution { index },
+        Refusal::EdgeNotInTable { index },
+        Refusal::EdgeTwice { index },
+        Refusal::PoolFull { index },
+    ];
+    for (refusal, number) in indexed.into_iter().zip(1..) {
+        assert_eq!((refusal.number(), refusal.index()), (number, Some(index)));
+        let words = refusal.to_string();
+        let (what, advice) = words.split_once(": ").expect("what is wrong, then what to do");
+        assert!(what.contains('5') && !advice.is_empty(), "{words}");
+    }
+    for (refusal, number) in [Refusal::TooManyCells, Refusal::BrokenState, Refusal::BadLengths].into_iter().zip(8..) {
+        assert_eq!((refusal.number(), refusal.index()), (number, None));
+        assert!(refusal.to_string().contains(": "), "{refusal}");
+    }
+    assert_eq!(
+        Refusal::PoolFull { index }.to_string(),
+        "no room for the outline of cell 5: open the zone with more slots"
+    );
 }

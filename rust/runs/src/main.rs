@@ -23,7 +23,7 @@ runs [--seed N] [--rounds N] [--tables FOLDER] [SECTION...]
     Compares the library with document 01's rules and with the Rust, and ends with status 1 at the first difference, with the smallest
     input that shows it. The fixed list of the Rust's answers is replayed first. Without a section, all of them run:
       walk      outlines, alone and through dissolve
-      short     every list of up to four cells on two small tables, in every mode
+      short     every list of up to four cells on two small tables
       dissolve  random lists on real and hand-made tables, in every mode
       standing  a state after every offer, with replays and refusals in between
       order     the same cells in another order

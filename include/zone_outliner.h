@@ -87,8 +87,9 @@ uint64_t zone_standing(const uint8_t *table, size_t table_length, uint8_t *state
  * row_slot, row_mark                     one for each row
  * start, size, group, ring_area          one for each ring that can be written, all of one length; as many as rows are always enough
  * ring_edges                             the rows of all rings; as many as rows are always enough
- * summary                                length 4, else refusal 10: kind (0 nothing, 1 closed, 2 outline), polygons, rings, and the bits of
- *                                        the first outer area; for nothing and closed 0 after the kind. A NaN's bits are 7FF8000000000000
+ * summary                                length 4, else refusal 10, tested first, and nothing is written: kind (0 nothing, 1 closed, 2 outline),
+ *                                        polygons, rings, and the bits of the first outer area; for nothing and closed 0 after the kind. A
+ *                                        NaN's bits are 7FF8000000000000
  *
  * Memory that is all 0 is a newly opened state of mode 0. Rings are listed polygon by polygon, a polygon's outer first; ring i has the
  * edges ring_edges[start[i]] to ring_edges[start[i] + size[i] - 1], from its lowest row on, and the rings of one polygon have one group, the

@@ -1,0 +1,2 @@
+-- What the callers of a load count on.
+pub mod Loads

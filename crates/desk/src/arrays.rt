@@ -1,0 +1,102 @@
+// Arrays of full size, for the programs: 65,536 rows, 65,536 slots, 16,384 places. They promise their length alone; nothing counts on
+// what is in them.
+//
+// They all lie on the stack, where a program is to stay under 7 MB. In bytes:
+//     a table      1,310,720   row_words, row_numbers, row_floats
+//     a state      1,900,544   place_words, 3 place_numbers, 4 slot_numbers, 2 row_numbers
+//     an output      786,432   3 ring_numbers, ring_floats, edge_numbers
+//     a list         262,144   place_words, place_lines
+//     a feed       1,048,576   feed_words, feed_lines
+//     a text       1,310,720   text_bytes
+// A table, a state, an output, a list and a text are 5.6 MB.
+ghost use mathlib.Core.Path.{_≡_};
+ghost use lib.ListN.{length};
+
+pub fn row_words() -> [u64; 65536]
+    ensures { λ r. ⌜ 65536 ≡ length r ⌝ }
+{
+    [0; 65536]
+}
+
+pub fn row_numbers() -> [u32; 65536]
+    ensures { λ r. ⌜ 65536 ≡ length r ⌝ }
+{
+    [0; 65536]
+}
+
+pub fn row_floats() -> [f64; 65536]
+    ensures { λ r. ⌜ 65536 ≡ length r ⌝ }
+{
+    [0.0; 65536]
+}
+
+pub fn slot_numbers() -> [u32; 65536]
+    ensures { λ r. ⌜ 65536 ≡ length r ⌝ }
+{
+    [0; 65536]
+}
+
+pub fn place_words() -> [u64; 16384]
+    ensures { λ r. ⌜ 16384 ≡ length r ⌝ }
+{
+    [0; 16384]
+}
+
+pub fn place_numbers() -> [u32; 16384]
+    ensures { λ r. ⌜ 16384 ≡ length r ⌝ }
+{
+    [0; 16384]
+}
+
+// The areas of an output of at most 16,384 rings, with 3 place_numbers: more than a real table can have.
+pub fn place_floats() -> [f64; 16384]
+    ensures { λ r. ⌜ 16384 ≡ length r ⌝ }
+{
+    [0.0; 16384]
+}
+
+// The lines of a list's cells.
+pub fn place_lines() -> [usize; 16384]
+    ensures { λ r. ⌜ 16384 ≡ length r ⌝ }
+{
+    [0; 16384]
+}
+
+// Of an edge and its reverse at most one stands, and a ring has an edge: so many rings and edges are enough for every table.
+pub fn ring_numbers() -> [u32; 32768]
+    ensures { λ r. ⌜ 32768 ≡ length r ⌝ }
+{
+    [0; 32768]
+}
+
+pub fn ring_floats() -> [f64; 32768]
+    ensures { λ r. ⌜ 32768 ≡ length r ⌝ }
+{
+    [0.0; 32768]
+}
+
+pub fn edge_numbers() -> [u32; 32768]
+    ensures { λ r. ⌜ 32768 ≡ length r ⌝ }
+{
+    [0; 32768]
+}
+
+// A feed has many more cells than it leaves held.
+pub fn feed_words() -> [u64; 65536]
+    ensures { λ r. ⌜ 65536 ≡ length r ⌝ }
+{
+    [0; 65536]
+}
+
+pub fn feed_lines() -> [usize; 65536]
+    ensures { λ r. ⌜ 65536 ≡ length r ⌝ }
+{
+    [0; 65536]
+}
+
+// The bytes of a file, and then of a report. A table of 65,536 rows has as many, and no report on a real table has more.
+pub fn text_bytes() -> [u8; 1310720]
+    ensures { λ r. ⌜ 1310720 ≡ length r ⌝ }
+{
+    [0; 1310720]
+}

@@ -1,5 +1,9 @@
 -- Laws that the proofs of this crate cite.
 pub mod Numbers
 pub mod Pieces
-pub mod Reading
+pub mod LinesLeft
+pub mod Come
+pub mod LineTaken
+pub mod Turn
 pub mod Examples
+pub mod Determined

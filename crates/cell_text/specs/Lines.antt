@@ -2,10 +2,10 @@
 -- Assumes nothing.
 use Prim.Native.Nat.{ℕ, suc, _+_, _≤_}
 use mathlib.Core.Path.{_≡_}
-use mathlib.Core.Bool.{Bool, cond}
+use mathlib.Core.Bool.{Bool, true, false, cond}
 use mathlib.Core.List.{List, [], _∷_}
-use lib.Dec.{eqb, leb}
-use lib.ListN.{length, take, drop}
+use lib.Dec.{eqb, leb, ltb}
+use lib.ListN.{length, take, drop, set}
 use lib.Seq.{sets}
 use Rattle.scope.specs.Lists.{at}
 use Rattle.cell_text.specs.declared.Line.{Line}
@@ -71,6 +71,30 @@ pub record Stored (r : Reading) (cells numbers : List ℕ) (answer : Listed) (ce
   pub ends : answer .ending ≡ r .end
   pub cells-are : cells′ ≡ sets cells 0 (r .cells)
   pub numbers-are : numbers′ ≡ sets numbers 0 (r .numbers)
+
+abbrev pub isWhole : Ending → Bool
+isWhole ending.Whole = true
+isWhole (ending.Fault number place) = false
+isWhole (ending.TooMany number) = false
+
+-- Line `number` taken, where `count` cells stand and `room` fit: how many stand after it, and what ends the reading there, Whole where nothing does.
+unfoldable pub listedBy : ℕ → Line → ℕ → ℕ → Listed
+listedBy room line.Passed number count = record { count = count; ending = ending.Whole }
+listedBy room (line.Cell x) number count =
+    cond (ltb count room) (record { count = count + 1; ending = ending.Whole }) (record { count = count; ending = ending.TooMany number })
+listedBy room (line.Fault place) number count = record { count = count; ending = ending.Fault number place }
+
+-- a slice after it, in which a cell that fits has its value stored
+unfoldable pub storedBy : ℕ → Line → (ℕ → ℕ) → ℕ → List ℕ → List ℕ
+storedBy room line.Passed value count s = s
+storedBy room (line.Cell x) value count s = cond (ltb count room) (set s count (value x)) s
+storedBy room (line.Fault place) value count s = s
+
+-- line `number` taken: the answer, and both slices
+pub record Took (room : ℕ) (l : Line) (number count : ℕ) (cells numbers : List ℕ) (answer : Listed) (cells′ numbers′ : List ℕ) : Type 0 where
+  pub listed : answer ≡ listedBy room l number count
+  pub cells-are : cells′ ≡ storedBy room l (λ x. x) count cells
+  pub numbers-are : numbers′ ≡ storedBy room l (λ x. number) count numbers
 
 -- the line that begins at place a, up to the next newline
 pub record NextLine (text : List ℕ) (a : ℕ) (next : Next) : Type 0 where

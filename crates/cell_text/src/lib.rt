@@ -9,7 +9,7 @@ ghost use mathlib.Core.Path.{_≡_};
 ghost use Prim.Native.Nat.{_≤_, min};
 ghost use lib.ListN.{length};
 ghost use lib.Seq.{sets};
-ghost use Rattle.cell_text.specs.Lines.{cellsOf, Stored, NextLine};
+ghost use Rattle.cell_text.specs.Lines.{cellsOf, isWhole, Stored, NextLine, Took};
 
 // What a line holds: nothing to take, a cell, or a fault at a place.
 pub enum Line {
@@ -56,37 +56,80 @@ fn next_line(text: &[u8], at: usize) -> Next
     }
 }
 
+// Whether nothing has ended a reading but the end of its text.
+fn is_whole(ending: Ending) -> bool
+    ensures { λ r. ⌜ r ≡ isWhole ending ⌝ }
+{
+    match ending {
+        Ending::Whole => true,
+        Ending::Fault(_, _) => false,
+        Ending::TooMany(_) => false,
+    }
+}
+
+// A cell, with its line, behind the `count` that stand: how many stand now, or that there is no room.
+fn store_cell(
+    cell: u64,
+    number: usize,
+    cells: &mut [u64],
+    numbers: &mut [usize],
+    count: usize,
+) -> Listed
+    ensures { λ r. ⌜ Took (min (length (now (cells .entry))) (length (now (numbers .entry)))) (Line.Cell cell) number count (now (cells .entry)) (now (numbers .entry)) r (now (cells .exit)) (now (numbers .exit)) ⌝ }
+{
+    if count < least(cells.len(), numbers.len()) {
+        cells[count] = cell;
+        numbers[count] = number;
+        return Listed {
+            count: count + 1,
+            ending: Ending::Whole,
+        };
+    }
+    Listed {
+        count,
+        ending: Ending::TooMany(number),
+    }
+}
+
+// One line more, where `count` cells stand: how many stand after it, and what ends the reading there, if anything does.
+fn take_line(
+    line: Line,
+    number: usize,
+    cells: &mut [u64],
+    numbers: &mut [usize],
+    count: usize,
+) -> Listed
+    ensures { λ r. ⌜ Took (min (length (now (cells .entry))) (length (now (numbers .entry)))) line number count (now (cells .entry)) (now (numbers .entry)) r (now (cells .exit)) (now (numbers .exit)) ⌝ }
+{
+    match line {
+        Line::Passed => Listed {
+            count,
+            ending: Ending::Whole,
+        },
+        Line::Cell(cell) => store_cell(cell, number, cells, numbers, count),
+        Line::Fault(place) => Listed {
+            count,
+            ending: Ending::Fault(number, place),
+        },
+    }
+}
+
 // The cells of a text, in their order, and the line of each, up to the first fault.
 pub fn read_cells(text: &[u8], cells: &mut [u64], numbers: &mut [usize]) -> Listed
     ensures { λ r. ⌜ Stored (cellsOf (min (length (now (cells .entry))) (length (now (numbers .entry)))) (now (text .entry))) (now (cells .entry)) (now (numbers .entry)) r (now (cells .exit)) (now (numbers .exit)) ⌝ }
 {
-    let room = least(cells.len(), numbers.len());
     let mut at: usize = 0;
     let mut number: usize = 1;
     let mut count: usize = 0;
     while at <= text.len() {
         let next = next_line(text, at);
         let line = next.line;
-        match line {
-            Line::Passed => {}
-            Line::Cell(cell) => {
-                if count == room {
-                    return Listed {
-                        count,
-                        ending: Ending::TooMany(number),
-                    };
-                }
-                cells[count] = cell;
-                numbers[count] = number;
-                count += 1;
-            }
-            Line::Fault(place) => {
-                return Listed {
-                    count,
-                    ending: Ending::Fault(number, place),
-                };
-            }
+        let listed = take_line(line, number, cells, numbers, count);
+        let ending = listed.ending;
+        if !is_whole(ending) {
+            return listed;
         }
+        count = listed.count;
         at = next.end + 1;
         number += 1;
     }

@@ -4,7 +4,7 @@ use native.Mathlib.Omega.{arith}
 use borrow.Author.Needs.{needs}
 use mathlib.Core.Path.{sym}
 use lib.Seq.{length-take-le}
-use Rattle.cell_text.proofs.Reading.{next-is}
+use Rattle.cell_text.proofs.LinesLeft.{next-is}
 use Rattle.cell_text.proofs.next_line.Statement.{statement}
 use Rattle.cell_text.proofs.next_line.Tie as tie
 

@@ -2,94 +2,62 @@
 -- Assumes nothing.
 use native.Mathlib.Omega.{arith}
 use borrow.Author.Needs.{needs}
-use mathlib.Core.Path.{_≡_, refl, sym, _∙_, ap, subst}
-use mathlib.Core.Logic.{⊎-elim}
-use mathlib.Core.List.{List}
-use Prim.Native.Nat.{ℕ, _+_, _-_, min}
-use lib.ListN.{length, length-set}
-use lib.Seq.{length-sets}
-use Rattle.cell_text.specs.Lines.{cellsOf, Stored}
-use Rattle.cell_text.proofs.Reading.{Come, come-none, come-passed, come-cell, come-fault, come-full, come-all, cells-long, numbers-long, room-left, in-room, come-same}
+use mathlib.Core.Path.{refl}
+use Prim.Native.Nat.{_+_, _-_, min}
+use lib.ListN.{length}
+use Rattle.scope.proofs.Tests.{fails, holds}
+use Rattle.cell_text.proofs.Come.{Come, come-none, come-all, cells-long, numbers-long, same-room}
+use Rattle.cell_text.proofs.Turn.{come-goes, come-ends}
 use Rattle.cell_text.proofs.read_cells.Statement.{statement}
 use Rattle.cell_text.proofs.read_cells.Tie as tie
 
 abbrev Inv-loop : tie.InvT-loop
-Inv-loop text cells₀ numbers₀ room at₀ number₀ count₀ cells numbers at number count = (room ≡ min (length cells₀) (length numbers₀)) × Come text cells₀ numbers₀ room cells numbers at number count
+Inv-loop text cells₀ numbers₀ at₀ number₀ count₀ cells numbers at number count = Come text cells₀ numbers₀ (min (length cells₀) (length numbers₀)) cells numbers at number count
 
 abbrev μ-loop : tie.MeasureT-loop
-μ-loop text cells₀ numbers₀ room at₀ number₀ count₀ cells numbers at number count = length text + 1 - at
-
-least-requires : tie.Need-least-requires Inv-loop μ-loop
-least-requires c κs = search needs
+μ-loop text cells₀ numbers₀ at₀ number₀ count₀ cells numbers at number count = length text + 1 - at
 
 loop-holds : tie.Need-loop-holds Inv-loop μ-loop
-loop-holds c = (c .least .ensures, come-none _ _ _ _)
+loop-holds c = come-none _ _ _ _
 
 next-line-requires : tie.Need-next-line-requires Inv-loop μ-loop
 next-line-requires c κs = search needs
 
-enum-told : tie.Need-enum-told Inv-loop μ-loop
-enum-told c = search needs
+take-line-requires : tie.Need-take-line-requires Inv-loop μ-loop
+take-line-requires c κs = search needs
 
-enum-known-line : tie.Need-enum-known-line Inv-loop μ-loop
-enum-known-line c = search needs
+is-whole-requires : tie.Need-is-whole-requires Inv-loop μ-loop
+is-whole-requires c κs = search needs
 
 same-length : tie.Need-same-length Inv-loop μ-loop
-same-length c = cells-long (c .before .before .before .before .before .before .loop .inv .1)
+same-length c = omega (arith, cells-long (c .before .before .before .before .before .before .before .before .before .before .before .loop .inv), c .before .before .before .before .before .before .take-line .kept .1 .1 .0)
 
 same-length-2 : tie.Need-same-length-2 Inv-loop μ-loop
-same-length-2 c = numbers-long (c .before .before .before .before .before .before .loop .inv .1)
+same-length-2 c = omega (arith, numbers-long (c .before .before .before .before .before .before .before .before .before .before .before .loop .inv), c .before .before .before .before .before .before .take-line .kept .1 .1 .1 .0)
 
 returns : tie.Need-returns Inv-loop μ-loop
-returns c = in-room _ (c .before .before .before .before .before .before .loop .inv .0) (come-full (c .before .before .before .before .before .before .loop .inv .1) (c .before .before .before .before .before .loop-test .taken) (c .before .before .before .before .next-line .ensures) (c .before .before .line .given .1) (c .if1 .taken))
-
-mul-cells : tie.Need-mul-cells Inv-loop μ-loop
-mul-cells c = omega arith
-
-slice-write-cells : tie.Need-slice-write-cells Inv-loop μ-loop
-slice-write-cells c = room-left (c .before .before .before .before .before .before .loop .inv .1) (c .before .before .before .before .before .before .loop .inv .0) (c .if1 .left) .0
-
-mul-numbers : tie.Need-mul-numbers Inv-loop μ-loop
-mul-numbers c = omega arith
-
-slice-write-numbers : tie.Need-slice-write-numbers Inv-loop μ-loop
-slice-write-numbers c = room-left (c .before .before .before .before .before .before .loop .inv .1) (c .before .before .before .before .before .before .loop .inv .0) (c .if1 .left) .1
-
-add-count : tie.Need-add-count Inv-loop μ-loop
-add-count c = omega arith
-
-enum-known-line-2 : tie.Need-enum-known-line-2 Inv-loop μ-loop
-enum-known-line-2 c = search needs
-
-same-length-3 : tie.Need-same-length-3 Inv-loop μ-loop
-same-length-3 c = cells-long (c .before .before .before .before .before .loop .inv .1)
-
-same-length-4 : tie.Need-same-length-4 Inv-loop μ-loop
-same-length-4 c = numbers-long (c .before .before .before .before .before .loop .inv .1)
-
-returns-2 : tie.Need-returns-2 Inv-loop μ-loop
-returns-2 c = in-room _ (c .before .before .before .before .before .loop .inv .0) (come-fault (c .before .before .before .before .before .loop .inv .1) (c .before .before .before .before .loop-test .taken) (c .before .before .before .next-line .ensures) (c .before .line2 .given .1))
+returns c = come-ends (c .before .before .before .before .before .before .before .before .before .before .before .loop .inv) (c .before .before .before .before .before .before .before .before .before .before .loop-test .taken) (c .before .before .before .before .before .before .before .before .before .next-line .ensures) (same-room (c .before .before .before .before .before .before .before .before .before .before .before .loop .inv)) _ refl (c .before .before .before .before .before .before .take-line .ensures) (fails (c .before .is-whole .ensures) (c .if1 .taken))
 
 add-at : tie.Need-add-at Inv-loop μ-loop
-add-at c = omega arith
+add-at c = omega (arith, c .before .before .before .before .before .before .before .before .before .before .next-line .ensures .within)
 
 add-number : tie.Need-add-number Inv-loop μ-loop
-add-number c = omega arith
+add-number c = omega (arith, c .before .before .before .before .before .before .before .before .before .before .before .before .loop .inv .counted, c .before .before .before .before .before .before .before .before .before .before .before .loop-test .taken)
 
 loop-less : tie.Need-loop-less Inv-loop μ-loop
-loop-less c = omega arith
+loop-less c = omega (arith, c .before .before .before .before .before .before .before .before .before .before .next-line .ensures .size, c .before .before .before .before .before .before .before .before .before .before .before .loop-test .taken)
 
 loop-again : tie.Need-loop-again Inv-loop μ-loop
-loop-again c = (c .before .before .before .before .loop .inv .0, ⊎-elim (λ w. come-same (w .2) (w .3) (w .4) (come-passed (c .before .before .before .before .loop .inv .1) (c .before .before .before .loop-test .taken) (c .before .before .next-line .ensures) (w .1 .given .1))) (λ w. come-same (w .4) (w .5) (w .6) (come-cell (c .before .before .before .before .loop .inv .1) (c .before .before .before .loop-test .taken) (c .before .before .next-line .ensures) (w .1 .given .1) (w .3 .left))) (c .before .match .came))
+loop-again c = come-goes (c .before .before .before .before .before .before .before .before .before .before .before .before .loop .inv) (c .before .before .before .before .before .before .before .before .before .before .before .loop-test .taken) (c .before .before .before .before .before .before .before .before .before .before .next-line .ensures) (same-room (c .before .before .before .before .before .before .before .before .before .before .before .before .loop .inv)) _ refl (c .before .before .before .before .before .before .before .take-line .ensures) (holds (c .before .before .is-whole .ensures) (c .before .if1 .left))
 
-same-length-5 : tie.Need-same-length-5 Inv-loop μ-loop
-same-length-5 c = cells-long (c .before .loop .inv .1)
+same-length-3 : tie.Need-same-length-3 Inv-loop μ-loop
+same-length-3 c = cells-long (c .before .loop .inv)
 
-same-length-6 : tie.Need-same-length-6 Inv-loop μ-loop
-same-length-6 c = numbers-long (c .before .loop .inv .1)
+same-length-4 : tie.Need-same-length-4 Inv-loop μ-loop
+same-length-4 c = numbers-long (c .before .loop .inv)
 
-returns-3 : tie.Need-returns-3 Inv-loop μ-loop
-returns-3 c = in-room _ (c .before .loop .inv .0) (come-all (c .before .loop .inv .1) (c .loop-test .left))
+returns-2 : tie.Need-returns-2 Inv-loop μ-loop
+returns-2 c = come-all (c .before .loop .inv) (c .loop-test .left)
 
 pub read-cells-spec : {M : Type 1} → statement M
 read-cells-spec =
@@ -97,27 +65,17 @@ read-cells-spec =
     (tie.spec
     Inv-loop
     μ-loop
-    least-requires
     loop-holds
     next-line-requires
-    enum-told
-    enum-known-line
+    take-line-requires
+    is-whole-requires
     same-length
     same-length-2
     returns
-    mul-cells
-    slice-write-cells
-    mul-numbers
-    slice-write-numbers
-    add-count
-    enum-known-line-2
-    same-length-3
-    same-length-4
-    returns-2
     add-at
     add-number
     loop-less
     loop-again
-    same-length-5
-    same-length-6
-    returns-3)
+    same-length-3
+    same-length-4
+    returns-2)

@@ -1,6 +1,5 @@
 -- Passes over a column with no early end, and what they tell of the whole table.
 --     Passing, passing-start, -more, -done     the loop: `kept` says that the test holds at every row so far
---     digits-at         one comparison tells the digits, where the resolution is the target
 --     sides-end         past the first edge whose top byte is above 17 no edge is edge 1
 --     columns-from      the passes over the columns, one by one
 --     none-bad          where every column passes, every row does
@@ -12,7 +11,6 @@ use mathlib.Core.List.{List}
 use mathlib.Core.Logic.{⊎-elim}
 use native.Mathlib.Nat.{eq-or-lt-of-le}
 use native.Mathlib.Omega.{arith}
-use lib.Bits.{bitAnd}
 use lib.Dec.{eqb, leb}
 use lib.ListN.{length, getD}
 use lib.Ieee.{nan}
@@ -25,7 +23,7 @@ use Rattle.scope.proofs.Scan.{passes-at, passes-all, Going}
 use Rattle.scope.proofs.Tables.{Ascending, ascending}
 use Rattle.scope.proofs.Edges.{validEdge-is}
 use Rattle.index.proofs.Digits.{digits-fit}
-use Rattle.edge_table.specs.Straight.{digitsFitAt, digitsKept, sideKept, finiteAt, Columns, NoneBad}
+use Rattle.edge_table.specs.Straight.{fieldsKept, ones, sevens, sevensKept, sideKept, finiteAt, Columns, NoneBad}
 
 -- ---- the loop
 
@@ -58,15 +56,8 @@ module _ {ok : ℕ → Bool} {n i : ℕ} {kept : Bool} (P : Passing ok n i kept)
 
 -- ---- digits
 
-pub digits-at : (target x : ℕ)
-    → (eqb (resolutionOf x) target && leb (baseCell x) 121 && eqb (bitAnd (bitAnd (bitAnd x (x / 2)) (x / 4)) 0o111111111111111) (0o111111111111111 / 2 ^ (3 * target)))
-    ≡ digitsFitAt target x
-digits-at target x = ⊎-elim
-    (λ t. let e : resolutionOf x ≡ target = eqb-true _ _ t in
-    ap (λ (b : Bool). eqb (resolutionOf x) target && leb (baseCell x) 121 && b)
-    (ap (λ (r : ℕ). eqb (bitAnd (bitAnd (bitAnd x (x / 2)) (x / 4)) 0o111111111111111) (0o111111111111111 / 2 ^ (3 * r))) (sym e) ∙ digits-fit x))
-    (λ t. rw t)
-    (either (eqb (resolutionOf x) target))
+digits-at : (target x : ℕ) → resolutionOf x ≡ target → eqb (sevens x) (ones / 2 ^ (3 * target)) ≡ all (digitFits x) 15
+digits-at target x e = ap (λ (r : ℕ). eqb (sevens x) (ones / 2 ^ (3 * r))) (sym e) ∙ digits-fit x
 
 -- ---- edge 1 of a pentagon
 
@@ -94,17 +85,19 @@ module _ (es : List ℕ) (O : Ascending es) where
 
 -- ---- the whole table
 
-pub columns-from : (t : Table) {d o p f : Bool} → d ≡ passes (digitsKept (targetOf t) (t .edges)) (rowCount t) → o ≡ passes (ascends (t .edges)) (rowCount t)
+pub columns-from : (t : Table) {g d o p f : Bool} → (g ≡ true → passes (fieldsKept (targetOf t) (t .edges)) (rowCount t) ≡ true)
+    → (d ≡ true → passes (sevensKept (ones / 2 ^ (3 * targetOf t)) (t .edges)) (rowCount t) ≡ true) → (o ≡ true → passes (ascends (t .edges)) (rowCount t) ≡ true)
     → p ≡ passes (paired (t .reverse)) (length (t .reverse)) → f ≡ passes (finiteAt (t .area)) (length (t .area))
-    → (leb 17 (top (t .edges) 0) && leb (top (t .edges) (rowCount t - 1)) 22 && d && o && (p && f)) ≡ true → Columns t
-columns-from t {d} {o} {p} {f} ed eo ep ef e =
+    → (leb 17 (top (t .edges) 0) && leb (top (t .edges) (rowCount t - 1)) 22 && g && d && o && (p && f)) ≡ true → Columns t
+columns-from t {g} {d} {o} {p} {f} eg ed eo ep ef e =
     record {
       first = leb-true 17 (top (t .edges) 0) (and-left low high tops);
       last = leb-true (top (t .edges) (rowCount t - 1)) 22 (and-right low high tops);
-      digits = sym ed ∙ and-right ends d with-digits;
-      order = sym eo ∙ and-right (ends && d) o with-order;
-      pairs = sym ep ∙ and-left p f (and-right (ends && d && o) (p && f) e);
-      finite = sym ef ∙ and-right p f (and-right (ends && d && o) (p && f) e);
+      fields = eg (and-right ends g with-fields);
+      digits = ed (and-right (ends && g) d with-sevens);
+      order = eo (and-right (ends && g && d) o with-order);
+      pairs = sym ep ∙ and-left p f (and-right (ends && g && d && o) (p && f) e);
+      finite = sym ef ∙ and-right p f (and-right (ends && g && d && o) (p && f) e);
     }
   where
     low : Bool
@@ -116,14 +109,17 @@ columns-from t {d} {o} {p} {f} ed eo ep ef e =
     ends : Bool
     ends = low && high
 
-    with-order : (ends && d && o) ≡ true
-    with-order = and-left (ends && d && o) (p && f) e
+    with-order : (ends && g && d && o) ≡ true
+    with-order = and-left (ends && g && d && o) (p && f) e
 
-    with-digits : (ends && d) ≡ true
-    with-digits = and-left (ends && d) o with-order
+    with-sevens : (ends && g && d) ≡ true
+    with-sevens = and-left (ends && g && d) o with-order
+
+    with-fields : (ends && g) ≡ true
+    with-fields = and-left (ends && g) d with-sevens
 
     tops : ends ≡ true
-    tops = and-left ends d with-digits
+    tops = and-left ends g with-fields
 
 module _ (t : Table) (C : Columns t) (sides : passes (sideKept (t .edges)) (rowCount t) ≡ true) where
   abbrev es : List ℕ
@@ -133,15 +129,14 @@ module _ (t : Table) (C : Columns t) (sides : passes (sideKept (t .edges)) (rowC
   O = ascending es (C .order)
 
   module _ (i : ℕ) (h : i < rowCount t) where
-    digits : digitsFitAt (targetOf t) (at es i) ≡ true
-    digits = passes-at (digitsKept (targetOf t) es) (rowCount t) (C .digits) i h
-
-    -- the resolution, the base cell and the digits, one by one
-    outer : (eqb (resolutionOf (at es i)) (targetOf t) && leb (baseCell (at es i)) 121) ≡ true
-    outer = and-left _ (all (digitFits (at es i)) 15) digits
+    fields : (eqb (resolutionOf (at es i)) (targetOf t) && leb (baseCell (at es i)) 121) ≡ true
+    fields = passes-at (fieldsKept (targetOf t) es) (rowCount t) (C .fields) i h
 
     resolution : eqb (resolutionOf (at es i)) (targetOf t) ≡ true
-    resolution = and-left _ (leb (baseCell (at es i)) 121) outer
+    resolution = and-left _ (leb (baseCell (at es i)) 121) fields
+
+    digits : all (digitFits (at es i)) 15 ≡ true
+    digits = sym (digits-at (targetOf t) (at es i) (eqb-true _ _ resolution)) ∙ passes-at (sevensKept (ones / 2 ^ (3 * targetOf t)) es) (rowCount t) (C .digits) i h
 
     valid : validEdge (at es i) ≡ true
     valid =
@@ -150,8 +145,8 @@ module _ (t : Table) (C : Columns t) (sides : passes (sideKept (t .edges)) (rowC
         validEdge-is (at es i) ∙ rw (
           le-leb 17 (top es i) (omega (arith, C .first)),
           le-leb (top es i) 22 (omega (arith, C .last)),
-          and-right (eqb (resolutionOf (at es i)) (targetOf t)) _ outer,
-          and-right (eqb (resolutionOf (at es i)) (targetOf t) && leb (baseCell (at es i)) 121) _ digits,
+          and-right (eqb (resolutionOf (at es i)) (targetOf t)) _ fields,
+          digits,
         )
         (passes-at (sideKept es) (rowCount t) sides i h)
 

@@ -1,22 +1,30 @@
 -- The rules of a table that a pass over one column can tell.
 -- Assumes nothing.
-use Prim.Native.Nat.{ℕ, _-_, _/_, _^_, _≤_}
+use Prim.Native.Nat.{ℕ, _-_, _*_, _/_, _^_, _≤_}
 use mathlib.Core.Path.{_≡_}
 use mathlib.Core.Bool.{Bool, true, not, _&&_}
 use mathlib.Core.List.{List}
+use lib.Bits.{bitAnd}
 use lib.Dec.{eqb, leb}
 use lib.ListN.{length, getD}
 use lib.Ieee.{Float, nan}
-use Rattle.scope.specs.Lists.{at, all, passes}
-use Rattle.scope.specs.Cells.{resolutionOf, baseCell, digitFits, isPentagon}
+use Rattle.scope.specs.Lists.{at, passes}
+use Rattle.scope.specs.Cells.{resolutionOf, baseCell, isPentagon}
 use Rattle.scope.specs.Table.{Table, rowCount, targetOf, hasTarget, isFinite, ascends, paired, rowGood}
 
--- The target's resolution, a base cell, and the digits that a valid edge has.
-abbrev pub digitsFitAt : ℕ → ℕ → Bool
-digitsFitAt target x = eqb (resolutionOf x) target && leb (baseCell x) 121 && all (digitFits x) 15
+-- The target's resolution, and a base cell.
+abbrev pub fieldsKept : ℕ → List ℕ → ℕ → Bool
+fieldsKept target es i = eqb (resolutionOf (at es i)) target && leb (baseCell (at es i)) 121
 
-abbrev pub digitsKept : ℕ → List ℕ → ℕ → Bool
-digitsKept target es i = digitsFitAt target (at es i)
+-- A one at the lowest bit of each of the fifteen digits, and of those that are 7: all three bits are set.
+abbrev pub ones : ℕ
+ones = 0o111111111111111
+
+abbrev pub sevens : ℕ → ℕ
+sevens x = bitAnd (bitAnd (bitAnd x (x / 2)) (x / 4)) ones
+
+abbrev pub sevensKept : ℕ → List ℕ → ℕ → Bool
+sevensKept wanted es i = eqb (sevens (at es i)) wanted
 
 -- Not edge 1 of a pentagon, by the top byte.
 abbrev pub sideKept : List ℕ → ℕ → Bool
@@ -29,7 +37,8 @@ finiteAt terms i = isFinite (getD terms i nan)
 pub record Columns (t : Table) : Type 0 where
   pub first : 17 ≤ at (t .edges) 0 / 2 ^ 56
   pub last : at (t .edges) (rowCount t - 1) / 2 ^ 56 ≤ 22
-  pub digits : passes (digitsKept (targetOf t) (t .edges)) (rowCount t) ≡ true
+  pub fields : passes (fieldsKept (targetOf t) (t .edges)) (rowCount t) ≡ true
+  pub digits : passes (sevensKept (ones / 2 ^ (3 * targetOf t)) (t .edges)) (rowCount t) ≡ true
   pub order : passes (ascends (t .edges)) (rowCount t) ≡ true
   pub pairs : passes (paired (t .reverse)) (length (t .reverse)) ≡ true
   pub finite : passes (finiteAt (t .area)) (length (t .area)) ≡ true

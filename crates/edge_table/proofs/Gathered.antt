@@ -1,0 +1,131 @@
+-- Passes that gather bits: what the bits tell at the end, they tell of every row.
+--     Showing, showing-start, -more, -done     the loop: where what is gathered is clear, the test holds at every row so far
+--     fields-resolution, fields-off      the resolution and the base cell, by the four bits above the base cell
+--     sevens-off      the digits 7
+--     rising-start, rising-more, rising-done   neighbours in order, by the top bit
+-- Assumes nothing.
+use Prim.Native.Nat.{ℕ, _+_, _-_, _/_, _%_, _^_, _<_, _≤_}
+use mathlib.Core.Path.{_≡_, refl, sym, _∙_, ap}
+use mathlib.Core.Bool.{Bool, true, _&&_}
+use mathlib.Core.List.{List}
+use mathlib.Core.Logic.{⊎-elim}
+use native.Mathlib.Nat.{eq-or-lt-of-le}
+use native.Mathlib.Omega.{arith}
+use lib.Bits.{bitAnd, bitOr, bitXor, or-add-and, xor-add-and, and-le-l, and-le-r, or-shr, or-mod, xor-shr, xor-mod}
+use lib.Dec.{eqb, leb, ltb}
+use lib.ListN.{length}
+use borrow.Author.Tests.{eq-eqb, ne-eqb, lt-ltb, ltb-true, le-leb}
+use Rattle.scope.specs.Lists.{at, passes}
+use Rattle.scope.specs.Cells.{resolutionOf, baseCell}
+use Rattle.scope.specs.Table.{ascends}
+use Rattle.scope.proofs.Tests.{and-left, and-right, and-both}
+use Rattle.scope.proofs.Scan.{passes-at, passes-all}
+
+-- ---- the loop
+
+pub record Showing (ok : ℕ → Bool) (n i : ℕ) (clear : Type 0) : Type 0 where
+  pub within : i ≤ n
+  pub so-far : clear → (k : ℕ) → k < i → ok k ≡ true
+
+pub showing-start : {ok : ℕ → Bool} {n : ℕ} {clear : Type 0} → Showing ok n 0 clear
+showing-start = record { within = omega arith; so-far = λ _ k h. absurd (omega arith) }
+
+module _ {ok : ℕ → Bool} {n i : ℕ} {clear : Type 0} (S : Showing ok n i clear) where
+  pub showing-more : i < n → {still : Type 0} → (still → clear × (ok i ≡ true)) → Showing ok n (i + 1) still
+  showing-more h back = record {
+    within = omega arith;
+    so-far = λ c k l.
+        let m : k ≤ i = omega arith in
+        ⊎-elim (λ (q : k ≡ i). ap ok q ∙ back c .1) (λ (g : k < i). S .so-far (back c .0) k g) (eq-or-lt-of-le m);
+  }
+
+  pub showing-done : n ≤ i → clear → passes ok n ≡ true
+  showing-done h c = passes-all ok n (λ k l. S .so-far c k (omega arith))
+
+-- ---- bits
+
+or-none : (a b : ℕ) → bitOr a b ≡ 0 → (a ≡ 0) × (b ≡ 0)
+or-none a b e =
+    let s = or-add-and a b in
+    let l = and-le-l a b in
+    let r = and-le-r a b in
+    (omega arith, omega arith)
+
+xor-none : (a b : ℕ) → bitXor a b ≡ 0 → a ≡ b
+xor-none a b e =
+    let s = xor-add-and a b in
+    let l = and-le-l a b in
+    let r = and-le-r a b in
+    omega arith
+
+abbrev four : ℕ → ℕ
+four y = y / 2 ^ 7 % 2 ^ 4
+
+or-four : (a b : ℕ) → four (bitOr a b) ≡ bitOr (four a) (four b)
+or-four a b = ap (λ (k : ℕ). k % 2 ^ 4) (or-shr a b 7) ∙ or-mod (a / 2 ^ 7) (b / 2 ^ 7) 4
+
+xor-four : (a b : ℕ) → four (bitXor a b) ≡ bitXor (four a) (four b)
+xor-four a b = ap (λ (k : ℕ). k % 2 ^ 4) (xor-shr a b 7) ∙ xor-mod (a / 2 ^ 7) (b / 2 ^ 7) 4
+
+pub fields-resolution : (x : ℕ) → four (x / 2 ^ 45) ≡ resolutionOf x
+fields-resolution x = omega arith
+
+base-fits : (y : ℕ) → four (y + 6) ≡ four y → y % 128 ≤ 121
+base-fits y e = omega arith
+
+pub fields-off : (x wanted off : ℕ) → four (bitOr (bitOr off (bitXor (x / 2 ^ 45) wanted)) (bitXor (x / 2 ^ 45 + 6) wanted)) ≡ 0
+    → (four off ≡ 0) × ((eqb (resolutionOf x) (four wanted) && leb (baseCell x) 121) ≡ true)
+fields-off x wanted off e = (outer .0, and-both _ _ (eq-eqb _ _ (sym (fields-resolution x) ∙ same-four)) (le-leb _ _ (base-fits y (six-four ∙ sym same-four))))
+  where
+    y : ℕ
+    y = x / 2 ^ 45
+
+    all : (four (bitOr off (bitXor y wanted)) ≡ 0) × (four (bitXor (y + 6) wanted) ≡ 0)
+    all = or-none _ _ (sym (or-four (bitOr off (bitXor y wanted)) (bitXor (y + 6) wanted)) ∙ e)
+
+    outer : (four off ≡ 0) × (four (bitXor y wanted) ≡ 0)
+    outer = or-none _ _ (sym (or-four off (bitXor y wanted)) ∙ all .0)
+
+    same-four : four y ≡ four wanted
+    same-four = xor-none _ _ (sym (xor-four y wanted) ∙ outer .1)
+
+    six-four : four (y + 6) ≡ four wanted
+    six-four = xor-none _ _ (sym (xor-four (y + 6) wanted) ∙ all .1)
+
+pub sevens-off : (off found wanted : ℕ) → bitOr off (bitXor found wanted) ≡ 0 → (off ≡ 0) × (eqb found wanted ≡ true)
+sevens-off off found wanted e =
+    let both = or-none off (bitXor found wanted) e in
+    (both .0, eq-eqb _ _ (xor-none found wanted (both .1)))
+
+-- ---- neighbours in order
+
+abbrev pub rises : List ℕ → ℕ → Bool
+rises es i = ascends es i && ltb (at es i) (2 ^ 63)
+
+pub rising-start : (es : List ℕ) → 0 < length es → {rising : ℕ} → (2 ^ 63 ≤ rising → at es 0 < 2 ^ 63) → Showing (rises es) (length es) 1 (2 ^ 63 ≤ rising)
+unfolding ascends
+rising-start es h low = record {
+  within = omega arith;
+  so-far = λ c k l. let z : k ≡ 0 = omega arith in rw z (lt-ltb (at es 0) (2 ^ 63) (low c));
+}
+
+above : (es : List ℕ) (i : ℕ) → 0 < i → at es (i - 1) < at es i → ascends es i ≡ true
+unfolding ascends
+above es i p l = rw (ne-eqb i 0 (λ z. omega arith)) (lt-ltb (at es (i - 1)) (at es i) l)
+
+pub rising-more : (es : List ℕ) {i rising d inverse : ℕ} → Showing (rises es) (length es) i (2 ^ 63 ≤ rising) → 0 < i → i < length es
+    → (2 ^ 63 ≤ d → at es (i - 1) < 2 ^ 63 → at es (i - 1) < at es i) → (2 ^ 63 ≤ inverse → at es i < 2 ^ 63)
+    → Showing (rises es) (length es) (i + 1) (2 ^ 63 ≤ bitAnd (bitAnd rising d) inverse)
+rising-more es {i} {rising} {d} {inverse} S p h step low = showing-more S h (λ c.
+    let a = and-le-l (bitAnd rising d) inverse in
+    let b = and-le-r (bitAnd rising d) inverse in
+    let e = and-le-l rising d in
+    let f = and-le-r rising d in
+    let kept : 2 ^ 63 ≤ rising = omega arith in
+    let before : at es (i - 1) < 2 ^ 63 = ltb-true _ _ (and-right (ascends es (i - 1)) _ (S .so-far kept (i - 1) (omega arith))) in
+    (kept, and-both (ascends es i) _ (above es i p (step (omega arith) before)) (lt-ltb (at es i) (2 ^ 63) (low (omega arith)))))
+
+pub rising-done : (es : List ℕ) {i rising : ℕ} → Showing (rises es) (length es) i (2 ^ 63 ≤ rising) → length es ≤ i → 2 ^ 63 ≤ rising → passes (ascends es) (length es) ≡ true
+rising-done es S h c =
+    let all = showing-done S h c in
+    passes-all (ascends es) (length es) (λ k l. and-left (ascends es k) _ (passes-at (rises es) (length es) all k l))

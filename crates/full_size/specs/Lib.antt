@@ -1,0 +1,2 @@
+-- Dissolve in memory of full size.
+pub mod Drawing

@@ -15,6 +15,7 @@ use crate::{
     tables::{
         Given,
         regions::{disk, scattered},
+        torus::{ancestor, child},
     },
 };
 
@@ -33,6 +34,7 @@ pub fn run(context: &mut Context, report: &mut Report) -> Result<(), String> {
     let deep = Given::new("gosper_d7_r9", context.folder.read("gosper_d7_r9")?);
     whole(&deep, &deep.coarser.clone(), 1, report)?;
     let big = Given::new("big_r9", context.folder.read("big_r9")?);
+    long_lists(&big, report)?;
     let around = disk(&big, 3000);
     whole(&big, &scattered(&big, &around), 1, report)?;
     whole(&big, &around, 0, report)
@@ -44,6 +46,25 @@ fn whole(given: &Given, list: &[u64], mode: u64, report: &mut Report) -> Result<
     let memory = Memory::opened(7, given.table.rows(), given.table.rows(), list.len());
     let out = Outputs::new(given.table.rows(), given.table.rows());
     Calls { given, lent: lent.as_ref(), memory, out, taken: None, report }.dissolve(list, mode)
+}
+
+/// Lists of more than 16,384 cells, which the library checks by parts of so many: too many cells, and faults in the last part.
+fn long_lists(given: &Given, report: &mut Report) -> Result<(), String> {
+    let top = ancestor(given.cells[0], 4);
+    let digit = |n: usize, level: u32| (n / 7_usize.pow(9 - level) % 7) as u64;
+    let cells = (0..16_400).map(|n| (5..=9).fold(top, |cell, level| child(cell, level, digit(n, level))));
+    let good = cells.collect::<Vec<_>>();
+    let with = |place: usize, cell: u64| [&good[..place], &[cell], &good[place + 1..]].concat();
+    let invalid = with(16_399, 7);
+    let equal = with(16_395, good[3]);
+    let nested = with(16_390, ancestor(good[7], 8));
+    let lent = oracle_answer::lent(&given.table);
+    for (list, mode) in [(good.clone(), 0), (invalid, 0), (equal, 2), (nested, 1)] {
+        let memory = Memory::opened(7, given.table.rows(), 64, 16_384);
+        let out = Outputs::new(1, 1);
+        Calls { given, lent: lent.as_ref(), memory, out, taken: None, report }.dissolve(&list, mode)?;
+    }
+    Ok(())
 }
 
 /// Mostly ample; else tight, the most, one more or none.

@@ -51,34 +51,22 @@ struct Oddity {
 const NO_END: &str = "no end";
 
 const ODDITIES: [Oddity; 6] = [
-    Oddity {
-        name: "ring-of-one",
-        pairs: "A3-A5 A1-X3 A4-X1 A6-X5 A2-X4",
-        cells: "A",
-        defined: "[[0], [2, 5, 9]]",
-        rust: "[[2, 5, 9]]",
-    },
+    Oddity { name: "ring-of-one", pairs: "P2-X3 P3-P4 P5-P6", cells: "P", defined: "[[0]]", rust: "closed" },
     Oddity { name: "ring-of-two", pairs: "A1-A3 A4-A5 A2-X1 A6-X3", cells: "A", defined: "[[2, 7]]", rust: "closed" },
-    Oddity {
-        name: "self-stitch",
-        pairs: "A3-A5 A1-B3 A4-X3 A6-X1 A2-X5 B1-X4 B5-X6 B4-X2 B6-Y3 B2-Y1",
-        cells: "AB",
-        defined: "[[1, 15, 12, 18, 5], [4, 11, 17]]",
-        rust: NO_END,
-    },
+    Oddity { name: "self-stitch", pairs: "A1-X3 A2-A4 A3-X1 A5-A6", cells: "A", defined: "[[0, 3]]", rust: NO_END },
     Oddity {
         name: "ring-left-out",
-        pairs: "A1-Q4 A2-A5 P2-A4 Q2-P4 A3-A6 P3-P5 Q3-P6 Q5-Q6",
+        pairs: "A1-X3 A2-A4 A3-A6 A5-P4 P2-X1 P3-P5 P6-X5",
         cells: "AP",
-        defined: "[[0, 8, 14]]",
+        defined: "[[0, 13, 3]]",
         rust: "closed",
     },
     Oddity {
         name: "invented-rings",
-        pairs: "A1-B1 A2-B2 A3-A5 B3-B4 A4-B5 A6-B6",
-        cells: "AB",
+        pairs: "P2-P3 P4-Q2 P5-Q4 P6-Q5 Q3-Q6",
+        cells: "PQ",
         defined: "closed",
-        rust: "[[2, 6, 10]]",
+        rust: "[[4, 8, 6]]",
     },
     Oddity {
         name: "no-end",

@@ -1,3 +1,5 @@
 -- Laws that the proofs of this crate cite.
 pub mod Totals
+pub mod Sweeps
+pub mod Counted
 pub mod Whole

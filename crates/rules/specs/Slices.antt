@@ -1,7 +1,11 @@
--- Memories of which a rule reads some slices only; the others are left empty.
+-- Memories of which a rule reads some slices only; the others are left empty. And how many numbers of a slice are not 0.
 -- Assumes nothing.
 use Prim.Native.Nat.{ℕ}
+use mathlib.Core.Bool.{Bool, not}
 use mathlib.Core.List.{List, [], _∷_}
+use lib.Dec.{eqb}
+use lib.ListN.{length}
+use Rattle.scope.specs.Lists.{at, below}
 use Rattle.scope.specs.Memory.{Memory, memory}
 
 abbrev pub rows : List ℕ → List ℕ → Memory
@@ -15,3 +19,9 @@ forest held parent rank = memory (0 ∷ held ∷ []) [] parent rank [] [] [] [] 
 
 abbrev pub pool : ℕ → List ℕ → List ℕ → List ℕ → List ℕ → List ℕ → List ℕ → Memory
 pool held cells slotRow slotCell prev next rowSlot = memory (0 ∷ held ∷ []) cells [] [] [] slotRow slotCell prev next rowSlot []
+
+abbrev pub isSet : List ℕ → ℕ → Bool
+isSet l i = not (eqb (at l i) 0)
+
+abbrev pub setCount : List ℕ → ℕ
+setCount l = length (below (isSet l) (length l))

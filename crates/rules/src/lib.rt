@@ -1,17 +1,18 @@
 // The state's rules, refusal 9, on any bytes at all: a number that nothing has checked is read as 0 past the end of its
 // slice, as the rules have it.
 ghost use mathlib.Core.Path.{_≡_};
-ghost use mathlib.Core.Bool.{cond};
+ghost use mathlib.Core.Bool.{cond, not};
 ghost use mathlib.Core.List.{[]};
 ghost use Prim.Native.Nat.{_<_, _≤_, _^_};
+ghost use lib.Dec.{eqb};
 ghost use lib.ListN.{length, take};
 ghost use Rattle.scope.specs.Lists.{at, passes};
 ghost use Rattle.scope.specs.Answers.{isAccepted};
 ghost use Rattle.scope.specs.Table.{table};
 ghost use Rattle.scope.specs.CellLists.{listVerdict};
 ghost use Rattle.scope.specs.Memory.{memory};
-ghost use Rattle.scope.specs.Rules.{rowKept, ownedBy, linkUsed, linksKept, freeKept, usedKept, slotKept, clearedAt, isRoot, parentKept, ranksKept, rulesKept};
-ghost use Rattle.rules.specs.Slices.{rows, links, forest, pool};
+ghost use Rattle.scope.specs.Rules.{ownedBy, linkUsed, linksKept, freeKept, usedKept, slotKept, clearedAt, isRoot, parentKept, ranksKept, rulesKept};
+ghost use Rattle.rules.specs.Slices.{links, forest, pool, setCount};
 use index::lies_under;
 use index::owner;
 use index::resolution;
@@ -26,29 +27,24 @@ fn at64(s: &[u64], i: usize) -> u64
     if i < s.len() { s[i] } else { 0 }
 }
 
-// A row's slot number is none or a used slot that holds this row.
-fn row_kept(slot_row: &[u32], row_slot: &[u32], row: usize) -> bool
-    requires { ⌜ row < length (now «row_slot») ⌝ }
-    ensures { λ b. ⌜ b ≡ rowKept (rows (now («slot_row» .entry)) (now («row_slot» .entry))) row ⌝ }
+// One for a number that is not 0, else none.
+fn one_if_set(number: u32) -> usize
+    ensures { λ r. ⌜ (r ≡ cond (not (eqb number 0)) 1 0) × (r ≤ 1) ⌝ }
 {
-    let number = at32(row_slot, row);
-    if number == 0 {
-        return true;
-    }
-    (number <= slot_row.len()) & (at32(slot_row, number - 1) == row + 1)
+    if number == 0 { 0 } else { 1 }
 }
 
-fn rows_kept(slot_row: &[u32], row_slot: &[u32]) -> bool
-    ensures { λ b. ⌜ b ≡ passes (rowKept (rows (now («slot_row» .entry)) (now («row_slot» .entry)))) (length (now («row_slot» .entry))) ⌝ }
+// How many numbers are not 0.
+fn set_count(numbers: &[u32]) -> usize
+    ensures { λ r. ⌜ r ≡ setCount (now (numbers .entry)) ⌝ }
 {
-    let mut row: usize = 0;
-    while row < row_slot.len() {
-        if !row_kept(slot_row, row_slot, row) {
-            return false;
-        }
-        row += 1;
+    let mut count: usize = 0;
+    let mut i: usize = 0;
+    while i < numbers.len() {
+        count += one_if_set(numbers[i]);
+        i += 1;
     }
-    true
+    count
 }
 
 // The edge's owner is the cell or lies under it.
@@ -56,7 +52,10 @@ fn owned_by(edge: u64, cell: u64) -> bool
     ensures { λ b. ⌜ b ≡ ownedBy edge cell ⌝ }
 {
     let cell_of_edge = owner(edge);
-    (cell_of_edge == cell) | lies_under(cell_of_edge, cell)
+    if cell_of_edge == cell {
+        return true;
+    }
+    lies_under(cell_of_edge, cell)
 }
 
 fn link_used(slot_row: &[u32], slot: usize) -> bool
@@ -182,14 +181,13 @@ fn slots_kept(
 fn all_cleared(marks: &[u32]) -> bool
     ensures { λ b. ⌜ b ≡ passes (clearedAt (now (marks .entry))) (length (now (marks .entry))) ⌝ }
 {
+    let mut kept = true;
     let mut i: usize = 0;
     while i < marks.len() {
-        if marks[i] != 0 {
-            return false;
-        }
+        kept = kept & (marks[i] == 0);
         i += 1;
     }
-    true
+    kept
 }
 
 // Each parent is held, and is itself or has a higher rank.
@@ -253,7 +251,8 @@ fn cells_kept(cells: &[u64], mode: usize, target: usize, held: usize) -> bool
     is_accepted(validate(&cells[..held], mode, target, held))
 }
 
-// The state breaks no rule: the table's three slices, and the state's eleven.
+// The state breaks no rule: the table's three slices, and the state's eleven. Each used slot's row points back to it, so that a row's slot
+// number is none or a used slot that holds this row, for every row, where as many rows have a slot as slots are used.
 pub fn rules_kept(
     edges: &[u64],
     reverse: &[u32],
@@ -280,7 +279,7 @@ pub fn rules_kept(
     }
     let target = resolution(at64(edges, 0));
     cells_kept(cells, mode, target, held)
-        & rows_kept(slot_row, row_slot)
+        & (set_count(row_slot) == set_count(slot_row))
         & slots_kept(
             edges,
             reverse,

@@ -4,29 +4,25 @@ use native.Mathlib.Omega.{arith}
 use borrow.Author.Needs.{needs}
 use Prim.Native.Nat.{_-_}
 use lib.ListN.{length}
-use borrow.Author.Tests.{eq-eqb, ne-eqb}
 use Rattle.scope.specs.Rules.{clearedAt}
-use Rattle.scope.proofs.Scan.{Going, going-start, going-more, going-false, going-true}
+use Rattle.rules.proofs.Sweeps.{Sweeping, sweeping-start, sweeping-more, sweeping-done}
 use Rattle.rules.proofs.all_cleared.Statement.{statement}
 use Rattle.rules.proofs.all_cleared.Tie as tie
 
 abbrev Inv-loop : tie.InvT-loop
-Inv-loop marks i₀ i = Going (clearedAt marks) (length marks) i
+Inv-loop marks kept₀ i₀ kept i = Sweeping (clearedAt marks) (length marks) i kept
 
 abbrev μ-loop : tie.MeasureT-loop
-μ-loop marks i₀ i = length marks - i
+μ-loop marks kept₀ i₀ kept i = length marks - i
 
 loop-holds : tie.Need-loop-holds Inv-loop μ-loop
-loop-holds c = going-start
+loop-holds c = sweeping-start
 
-mul-if1 : tie.Need-mul-if1 Inv-loop μ-loop
-mul-if1 c = search needs
+mul-kept : tie.Need-mul-kept Inv-loop μ-loop
+mul-kept c = search needs
 
-shared-slice-read-if1 : tie.Need-shared-slice-read-if1 Inv-loop μ-loop
-shared-slice-read-if1 c = omega arith
-
-returns : tie.Need-returns Inv-loop μ-loop
-returns c = going-false (c .before .before .before .loop .inv) (c .before .before .loop-test .taken) (ne-eqb _ _ (c .if1 .taken))
+shared-slice-read-kept : tie.Need-shared-slice-read-kept Inv-loop μ-loop
+shared-slice-read-kept c = omega arith
 
 add-i : tie.Need-add-i Inv-loop μ-loop
 add-i c = omega arith
@@ -35,10 +31,10 @@ loop-less : tie.Need-loop-less Inv-loop μ-loop
 loop-less c = omega arith
 
 loop-again : tie.Need-loop-again Inv-loop μ-loop
-loop-again c = going-more (c .before .before .before .loop .inv) (c .before .before .loop-test .taken) (eq-eqb _ _ (c .if1 .left))
+loop-again c = sweeping-more (c .before .before .loop .inv) (c .before .loop-test .taken)
 
-returns-2 : tie.Need-returns-2 Inv-loop μ-loop
-returns-2 c = going-true (c .before .loop .inv) (c .loop-test .left)
+returns : tie.Need-returns Inv-loop μ-loop
+returns c = sweeping-done (c .before .loop .inv) (c .loop-test .left)
 
 pub all-cleared-spec : {M : Type 1} → statement M
 all-cleared-spec =
@@ -47,10 +43,9 @@ all-cleared-spec =
     Inv-loop
     μ-loop
     loop-holds
-    mul-if1
-    shared-slice-read-if1
-    returns
+    mul-kept
+    shared-slice-read-kept
     add-i
     loop-less
     loop-again
-    returns-2)
+    returns)

@@ -3,7 +3,7 @@
 use borrow.Author.Needs.{needs}
 use mathlib.Core.Path.{_∙_, ap}
 use Rattle.scope.specs.Cells.{resolutionOf}
-use Rattle.rules.proofs.Whole.{held-fits, head-fails, one-by-one}
+use Rattle.rules.proofs.Whole.{held-fits, head-fails, counted}
 use Rattle.rules.proofs.rules_kept.Statement.{statement}
 use Rattle.rules.proofs.rules_kept.Tie as tie
 
@@ -28,8 +28,11 @@ resolution-requires c κs = search needs
 cells-kept-requires : tie.Need-cells-kept-requires
 cells-kept-requires c κs = held-fits (c .before .before .before .before .at32 .result) _ _ (c .before .before .if1 .left)
 
-rows-kept-requires : tie.Need-rows-kept-requires
-rows-kept-requires c κs = search needs
+set-count-requires : tie.Need-set-count-requires
+set-count-requires c κs = search needs
+
+set-count-requires-2 : tie.Need-set-count-requires-2
+set-count-requires-2 c κs = search needs
 
 slots-kept-requires : tie.Need-slots-kept-requires
 slots-kept-requires c κs = search needs
@@ -44,14 +47,14 @@ parents-kept-requires : tie.Need-parents-kept-requires
 parents-kept-requires c κs = search needs
 
 ranks-kept-requires : tie.Need-ranks-kept-requires
-ranks-kept-requires c κs = c .before .before .before .before .before .before .before .before .before .at322 .ensures .1
+ranks-kept-requires c κs = c .before .before .before .before .before .before .before .before .before .before .at322 .ensures .1
 
 returns-2 : tie.Need-returns-2
 returns-2 c =
-    let start = c .before .before .before .before .before .before .before .before .before .before .before .before .before .before .before .before .before .before .before .before .before .before .before .before .before .before .args in
-    let target = c .before .before .before .before .before .before .before .resolution .ensures ∙ ap resolutionOf (c .before .before .before .before .before .before .before .before .at64 .ensures) in
-    one-by-one (start .edges .now) (start .reverse .now) (start .area .now) _ _ _ _ _ _ _ _ _ _ _ _ _ (c .before .before .before .before .before .before .before .before .before .before .before .at32 .ensures .0) (c .before .before .before .before .before .before .before .before .before .before .at322 .ensures .0)
-    (c .before .before .before .before .before .before .before .before .before .if1 .left) target (c .before .before .before .before .before .before .cells-kept .ensures) (c .before .before .before .before .before .rows-kept .ensures) (c .before .before .before .before .slots-kept .ensures) (c .before .before .before .all-cleared .ensures)
+    let start = c .before .before .before .before .before .before .before .before .before .before .before .before .before .before .before .before .before .before .before .before .before .before .before .before .before .before .before .args in
+    let target = c .before .before .before .before .before .before .before .before .resolution .ensures ∙ ap resolutionOf (c .before .before .before .before .before .before .before .before .before .at64 .ensures) in
+    counted (start .edges .now) (start .reverse .now) (start .area .now) _ _ _ _ _ _ _ _ _ _ _ _ _ (c .before .before .before .before .before .before .before .before .before .before .before .before .at32 .ensures .0) (c .before .before .before .before .before .before .before .before .before .before .before .at322 .ensures .0)
+    (c .before .before .before .before .before .before .before .before .before .before .if1 .left) target (c .before .before .before .before .before .before .before .cells-kept .ensures) (c .before .before .before .before .before .before .set-count .ensures) (c .before .before .before .before .before .set-count2 .ensures) (c .before .before .before .before .slots-kept .ensures) (c .before .before .before .all-cleared .ensures)
     (c .before .before .all-cleared2 .ensures) (c .before .parents-kept .ensures) (c .ranks-kept .ensures)
 
 pub rules-kept-spec : {M : Type 1} → statement M
@@ -64,7 +67,8 @@ rules-kept-spec =
     at64-requires
     resolution-requires
     cells-kept-requires
-    rows-kept-requires
+    set-count-requires
+    set-count-requires-2
     slots-kept-requires
     all-cleared-requires
     all-cleared-requires-2

@@ -11,13 +11,47 @@ ghost use Prim.Native.Nat.{_≤_};
 ghost use lib.ListN.{length};
 ghost use Rattle.scope.specs.Lists.{at};
 ghost use Rattle.text.specs.Text.{Wrote};
-ghost use Rattle.report.specs.Answers.{nothingText, closedText, outlineText};
+ghost use Rattle.report.specs.Answers.{nothingText, closedText, countedText, outlineText};
 
 // The line of a cell, 0 past the end.
 fn line_at(lines: &[usize], index: usize) -> usize
     ensures { λ r. ⌜ r ≡ at (now (lines .entry)) index ⌝ }
 {
     if index < lines.len() { lines[index] } else { 0 }
+}
+
+// An outline of so many cells: what it counts, then each ring.
+fn put_counted(
+    out: &mut [u8],
+    at: usize,
+    cells: usize,
+    edges: &[u64],
+    rows: bool,
+    polygons: usize,
+    rings: usize,
+    start: &[u32],
+    size: &[u32],
+    group: &[u32],
+    area: &[f64],
+    list: &[u32],
+) -> usize
+    requires { ⌜ at ≤ length (now out) ⌝ }
+    ensures { λ r. ⌜ Wrote (now (out .entry)) at (now (out .exit)) r (countedText cells (now (edges .entry)) rows polygons rings (now (start .entry)) (now (size .entry)) (now (group .entry)) (now (area .entry)) (now (list .entry))) ⌝ }
+{
+    let count = standing(start, size, rings);
+    let counted = put_summary(out, at, edges.len(), cells, polygons, rings, count);
+    put_rings(
+        out,
+        counted,
+        edges,
+        rows,
+        start,
+        size,
+        group,
+        area,
+        list,
+        rings,
+    )
 }
 
 // The whole report of an answer: what it counts and each ring, or why there is none.
@@ -48,30 +82,20 @@ pub fn put_outline(
             lines.len(),
             b" cells, and no edge stands\n",
         ),
-        ReadOut::Outline(polygons, rings, _) => {
-            let edge_count = standing(start, size, rings);
-            let counted = put_summary(
-                out,
-                at,
-                edges.len(),
-                lines.len(),
-                polygons,
-                rings,
-                edge_count,
-            );
-            put_rings(
-                out,
-                counted,
-                edges,
-                rows,
-                start,
-                size,
-                group,
-                area,
-                row_list,
-                rings,
-            )
-        }
+        ReadOut::Outline(polygons, rings, _) => put_counted(
+            out,
+            at,
+            lines.len(),
+            edges,
+            rows,
+            polygons,
+            rings,
+            start,
+            size,
+            group,
+            area,
+            row_list,
+        ),
         ReadOut::Refused(number, index) => put_refusal(
             out,
             at,

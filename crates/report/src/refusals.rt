@@ -4,7 +4,32 @@ use text::put_bytes;
 ghost use Prim.Native.Nat.{_≤_};
 ghost use lib.ListN.{length};
 ghost use Rattle.text.specs.Text.{Wrote};
-ghost use Rattle.report.specs.Refusals.{refusalWords, refusalPlace, refusalText};
+ghost use Rattle.report.specs.Refusals.{memoryWords, refusalWords, refusalPlace, refusalText};
+
+// The words of 7 to 10, which are of the memory lent.
+fn put_memory_words(out: &mut [u8], at: usize, number: usize) -> usize
+    requires { ⌜ at ≤ length (now out) ⌝ }
+    ensures { λ r. ⌜ Wrote (now (out .entry)) at (now (out .exit)) r (memoryWords number) ⌝ }
+{
+    if number == 7 {
+        return put_bytes(
+            out,
+            at,
+            b"the pool has too few free slots for this cell's outline",
+        );
+    }
+    if number == 8 {
+        return put_bytes(out, at, b"there are more cells than places");
+    }
+    if number == 9 {
+        return put_bytes(out, at, b"the state breaks a rule");
+    }
+    put_bytes(
+        out,
+        at,
+        b"a length, a capacity or the mode is out of range, or an output is too short",
+    )
+}
 
 pub fn put_words(out: &mut [u8], at: usize, number: usize) -> usize
     requires { ⌜ at ≤ length (now out) ⌝ }
@@ -40,24 +65,7 @@ pub fn put_words(out: &mut [u8], at: usize, number: usize) -> usize
     if number == 6 {
         return put_bytes(out, at, b"this cell's outline names an edge twice");
     }
-    if number == 7 {
-        return put_bytes(
-            out,
-            at,
-            b"the pool has too few free slots for this cell's outline",
-        );
-    }
-    if number == 8 {
-        return put_bytes(out, at, b"there are more cells than places");
-    }
-    if number == 9 {
-        return put_bytes(out, at, b"the state breaks a rule");
-    }
-    put_bytes(
-        out,
-        at,
-        b"a length, a capacity or the mode is out of range, or an output is too short",
-    )
+    put_memory_words(out, at, number)
 }
 
 // The file that a refusal points at, and the row or the line in it; `line` is the line of the cell.

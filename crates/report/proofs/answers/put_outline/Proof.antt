@@ -1,7 +1,6 @@
 -- `report::answers/put_outline` meets its contract. By cases.
 -- Assumes nothing.
 use borrow.Author.Needs.{needs}
-use Rattle.text.proofs.Writing.{wrote-more}
 use Rattle.report.specs.Answers.{outlineText}
 use Rattle.report.proofs.answers.put_outline.Statement.{statement}
 use Rattle.report.proofs.answers.put_outline.Tie as tie
@@ -30,14 +29,8 @@ put-noted-requires c κs = search needs
 enum-known-answer : tie.Need-enum-known-answer
 enum-known-answer c = search needs
 
-standing-requires : tie.Need-standing-requires
-standing-requires c κs = search needs
-
-put-summary-requires : tie.Need-put-summary-requires
-put-summary-requires c κs = search needs
-
-put-rings-requires : tie.Need-put-rings-requires
-put-rings-requires c κs = search needs
+put-counted-requires : tie.Need-put-counted-requires
+put-counted-requires c κs = search needs
 
 enum-known-answer-2 : tie.Need-enum-known-answer-2
 enum-known-answer-2 c = search needs
@@ -67,7 +60,7 @@ same-length-3 c = search needs
 
 returns-3 : tie.Need-returns-3
 unfolding outlineText
-returns-3 c = rw (c .before .before .before .before .before .before .before .before .before .before .answer .given .1, ← c .before .before .before .before .before .before .before .before .standing .ensures) (wrote-more (c .before .before .before .before .before .before .put-summary .ensures) (c .before .before .put-rings .ensures))
+returns-3 c = rw (c .before .before .before .before .before .answer .given .1) (c .before .before .put-counted .ensures)
 
 same-length-4 : tie.Need-same-length-4
 same-length-4 c = search needs
@@ -88,9 +81,7 @@ put-outline-spec =
     slice-aggregate-put-noted-2
     put-noted-requires
     enum-known-answer
-    standing-requires
-    put-summary-requires
-    put-rings-requires
+    put-counted-requires
     enum-known-answer-2
     line-at-requires
     put-refusal-requires

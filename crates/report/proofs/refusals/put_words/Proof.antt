@@ -84,57 +84,15 @@ returns-6 : tie.Need-returns-6
 unfolding refusalWords
 returns-6 c = rw (c .before .before .before .before .before .if6 .taken) (c .before .before .put-bytes6 .ensures)
 
-slice-aggregate-put-bytes-7 : tie.Need-slice-aggregate-put-bytes-7
-slice-aggregate-put-bytes-7 c = search needs
-
-put-bytes-requires-7 : tie.Need-put-bytes-requires-7
-put-bytes-requires-7 c κs = search needs
+put-memory-words-requires : tie.Need-put-memory-words-requires
+put-memory-words-requires c κs = search needs
 
 same-length-7 : tie.Need-same-length-7
 same-length-7 c = search needs
 
 returns-7 : tie.Need-returns-7
 unfolding refusalWords
-returns-7 c = rw (c .before .before .before .before .before .if7 .taken) (c .before .before .put-bytes7 .ensures)
-
-slice-aggregate-put-bytes-8 : tie.Need-slice-aggregate-put-bytes-8
-slice-aggregate-put-bytes-8 c = search needs
-
-put-bytes-requires-8 : tie.Need-put-bytes-requires-8
-put-bytes-requires-8 c κs = search needs
-
-same-length-8 : tie.Need-same-length-8
-same-length-8 c = search needs
-
-returns-8 : tie.Need-returns-8
-unfolding refusalWords
-returns-8 c = rw (c .before .before .before .before .before .if8 .taken) (c .before .before .put-bytes8 .ensures)
-
-slice-aggregate-put-bytes-9 : tie.Need-slice-aggregate-put-bytes-9
-slice-aggregate-put-bytes-9 c = search needs
-
-put-bytes-requires-9 : tie.Need-put-bytes-requires-9
-put-bytes-requires-9 c κs = search needs
-
-same-length-9 : tie.Need-same-length-9
-same-length-9 c = search needs
-
-returns-9 : tie.Need-returns-9
-unfolding refusalWords
-returns-9 c = rw (c .before .before .before .before .before .if9 .taken) (c .before .before .put-bytes9 .ensures)
-
-slice-aggregate-put-bytes-10 : tie.Need-slice-aggregate-put-bytes-10
-slice-aggregate-put-bytes-10 c = search needs
-
-put-bytes-requires-10 : tie.Need-put-bytes-requires-10
-put-bytes-requires-10 c κs = search needs
-
-same-length-10 : tie.Need-same-length-10
-same-length-10 c = search needs
-
-returns-10 : tie.Need-returns-10
-unfolding refusalWords
-returns-10 c = rw (ne-eqb _ _ (c .before .before .before .before .before .before .before .before .before .before .before .before .before .if1 .left), ne-eqb _ _ (c .before .before .before .before .before .before .before .before .before .before .before .before .if2 .left), ne-eqb _ _ (c .before .before .before .before .before .before .before .before .before .before .before .if3 .left), ne-eqb _ _ (c .before .before .before .before .before .before .before .before .before .before .if4 .left), ne-eqb _ _ (c .before .before .before .before .before .before .before .before .before .if5 .left), ne-eqb _ _ (c .before .before .before .before .before .before .before .before .if6 .left), ne-eqb _ _ (c .before .before .before .before .before .before .before .if7 .left), ne-eqb _ _ (c .before .before .before .before .before .before .if8 .left), ne-eqb _ _ (c .before .before .before .before .before .if9 .left)) (c .before .before .put-bytes10 .ensures)
+returns-7 c = rw (ne-eqb _ _ (c .before .before .before .before .before .before .before .before .before .if1 .left), ne-eqb _ _ (c .before .before .before .before .before .before .before .before .if2 .left), ne-eqb _ _ (c .before .before .before .before .before .before .before .if3 .left), ne-eqb _ _ (c .before .before .before .before .before .before .if4 .left), ne-eqb _ _ (c .before .before .before .before .before .if5 .left), ne-eqb _ _ (c .before .before .before .before .if6 .left)) (c .before .before .put-memory-words .ensures)
 
 pub put-words-spec : {M : Type 1} → statement M
 put-words-spec =
@@ -164,19 +122,6 @@ put-words-spec =
     put-bytes-requires-6
     same-length-6
     returns-6
-    slice-aggregate-put-bytes-7
-    put-bytes-requires-7
+    put-memory-words-requires
     same-length-7
-    returns-7
-    slice-aggregate-put-bytes-8
-    put-bytes-requires-8
-    same-length-8
-    returns-8
-    slice-aggregate-put-bytes-9
-    put-bytes-requires-9
-    same-length-9
-    returns-9
-    slice-aggregate-put-bytes-10
-    put-bytes-requires-10
-    same-length-10
-    returns-10)
+    returns-7)

@@ -1,5 +1,6 @@
 // The records of the list. A head of 32 bytes has the kind (1 a table, 2 a dissolve on the last table, 0 the end), the mode or, at the
 // end, the number of dissolves, slots, places, the result, and the lengths of the input and the output that follow it.
+use check::same;
 use codec::read_u32;
 use codec::read_u64;
 use host::bytes::zone_dissolve;
@@ -7,7 +8,7 @@ ghost use mathlib.Core.Path.{_≡_};
 ghost use Prim.Native.Nat.{_+_, _≤_, _<_, _^_};
 ghost use lib.ListN.{length};
 
-pub struct Tally {
+pub(crate) struct Tally {
     pub answers: u64,
     pub otherwise: u64,
     pub told: u64,
@@ -17,20 +18,6 @@ fn wide(x: u32) -> usize
     ensures { λ r. ⌜ r < 2 ^ 32 ⌝ }
 {
     x as usize
-}
-
-fn same(a: &[u8], b: &[u8]) -> bool {
-    if a.len() != b.len() {
-        return false;
-    }
-    let mut i: usize = 0;
-    while i < a.len() {
-        if a[i] != b[i] {
-            return false;
-        }
-        i += 1;
-    }
-    true
 }
 
 fn output_room() -> [u8; 24624]
@@ -65,8 +52,33 @@ fn one_unless(answered: bool) -> u64
     if answered { 0 } else { 1 }
 }
 
+// Where the input of a record ends and its output begins, and where the record ends; `input` is where its head does.
+struct Bounds {
+    output: usize,
+    end: usize,
+}
+
+fn bounds_of(head: &[u8], input: usize) -> Bounds
+    requires { ⌜ (32 ≤ length (now head)) × (input < 2 ^ 63) ⌝ }
+    ensures { λ r. ⌜ (input ≤ r .output) × (r .output ≤ r .end) ⌝ }
+{
+    let output = input + wide(read_u32(head, 24));
+    Bounds {
+        output,
+        end: output + wide(read_u32(head, 28)),
+    }
+}
+
+fn tally_of(answers: u64, otherwise: u64, told: u64) -> Tally {
+    Tally {
+        answers,
+        otherwise,
+        told,
+    }
+}
+
 // Replays the list up to its end record, or to a record that is cut off.
-pub fn replay(list: &[u8]) -> Tally {
+pub(crate) fn replay(list: &[u8]) -> Tally {
     let mut answers: u64 = 0;
     let mut otherwise: u64 = 0;
     let mut table: usize = 0;
@@ -75,24 +87,15 @@ pub fn replay(list: &[u8]) -> Tally {
     while at + 32 <= list.len() {
         let input = at + 32;
         let head = &list[at..input];
-        let size = wide(read_u32(head, 24));
-        let room = wide(read_u32(head, 28));
-        if list.len() < input + size + room {
-            return Tally {
-                answers: answers,
-                otherwise: otherwise,
-                told: 0,
-            };
-        }
-        let output = input + size;
-        at = output + room;
         let kind = read_u32(head, 0);
+        let bounds = bounds_of(head, input);
+        let output = bounds.output;
+        at = bounds.end;
+        if list.len() < at {
+            return tally_of(answers, otherwise, 0);
+        }
         if kind == 0 {
-            return Tally {
-                answers: answers,
-                otherwise: otherwise,
-                told: read_u32(head, 4) as u64,
-            };
+            return tally_of(answers, otherwise, read_u32(head, 4) as u64);
         }
         if kind == 1 {
             table = input;
@@ -108,9 +111,5 @@ pub fn replay(list: &[u8]) -> Tally {
             otherwise += one_unless(answered);
         }
     }
-    Tally {
-        answers: answers,
-        otherwise: otherwise,
-        told: 0,
-    }
+    tally_of(answers, otherwise, 0)
 }

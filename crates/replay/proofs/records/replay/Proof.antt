@@ -34,38 +34,23 @@ part-head-end c = search needs
 read-u32-requires : tie.Need-read-u32-requires Inv-loop μ-loop
 read-u32-requires c κs = search needs
 
-wide-requires : tie.Need-wide-requires Inv-loop μ-loop
-wide-requires c κs = search needs
+bounds-of-requires : tie.Need-bounds-of-requires Inv-loop μ-loop
+bounds-of-requires c κs = (search needs, omega arith)
 
-read-u32-requires-2 : tie.Need-read-u32-requires-2 Inv-loop μ-loop
-read-u32-requires-2 c κs = search needs
-
-wide-requires-2 : tie.Need-wide-requires-2 Inv-loop μ-loop
-wide-requires-2 c κs = search needs
-
-add-if1 : tie.Need-add-if1 Inv-loop μ-loop
-add-if1 c = search needs
-
-add-if1-2 : tie.Need-add-if1-2 Inv-loop μ-loop
-add-if1-2 c = search needs
+tally-of-requires : tie.Need-tally-of-requires Inv-loop μ-loop
+tally-of-requires c κs = search needs
 
 returns : tie.Need-returns Inv-loop μ-loop
 returns c = tt
 
-add-output : tie.Need-add-output Inv-loop μ-loop
-add-output c = search needs
+read-u32-requires-2 : tie.Need-read-u32-requires-2 Inv-loop μ-loop
+read-u32-requires-2 c κs = search needs
 
-add-at : tie.Need-add-at Inv-loop μ-loop
-add-at c = search needs
+cast-tally-of : tie.Need-cast-tally-of Inv-loop μ-loop
+cast-tally-of c = search needs
 
-read-u32-requires-3 : tie.Need-read-u32-requires-3 Inv-loop μ-loop
-read-u32-requires-3 c κs = search needs
-
-read-u32-requires-4 : tie.Need-read-u32-requires-4 Inv-loop μ-loop
-read-u32-requires-4 c κs = search needs
-
-cast-t22 : tie.Need-cast-t22 Inv-loop μ-loop
-cast-t22 c = search needs
+tally-of-requires-2 : tie.Need-tally-of-requires-2 Inv-loop μ-loop
+tally-of-requires-2 c κs = search needs
 
 returns-2 : tie.Need-returns-2 Inv-loop μ-loop
 returns-2 c = tt
@@ -121,6 +106,9 @@ loop-less-2 c = omega arith
 loop-again-2 : tie.Need-loop-again-2 Inv-loop μ-loop
 loop-again-2 c = (omega arith, omega arith, omega arith, omega arith, omega arith)
 
+tally-of-requires-3 : tie.Need-tally-of-requires-3 Inv-loop μ-loop
+tally-of-requires-3 c κs = search needs
+
 returns-3 : tie.Need-returns-3 Inv-loop μ-loop
 returns-3 c = tt
 
@@ -137,17 +125,12 @@ replay-spec =
     part-head-start
     part-head-end
     read-u32-requires
-    wide-requires
-    read-u32-requires-2
-    wide-requires-2
-    add-if1
-    add-if1-2
+    bounds-of-requires
+    tally-of-requires
     returns
-    add-output
-    add-at
-    read-u32-requires-3
-    read-u32-requires-4
-    cast-t22
+    read-u32-requires-2
+    cast-tally-of
+    tally-of-requires-2
     returns-2
     loop-less
     loop-again
@@ -166,4 +149,5 @@ replay-spec =
     add-otherwise
     loop-less-2
     loop-again-2
+    tally-of-requires-3
     returns-3)

@@ -14,7 +14,7 @@ ghost use Rattle.text.specs.Text.{Wrote};
 ghost use Rattle.report.specs.Answers.{nothingText, closedText, countedText, outlineText};
 
 // The line of a cell, 0 past the end.
-fn line_at(lines: &[usize], index: usize) -> usize
+pub fn line_at(lines: &[usize], index: usize) -> usize
     ensures { λ r. ⌜ r ≡ at (now (lines .entry)) index ⌝ }
 {
     if index < lines.len() { lines[index] } else { 0 }

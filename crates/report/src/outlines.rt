@@ -14,14 +14,14 @@ ghost use Rattle.text.specs.Text.{Wrote};
 ghost use Rattle.report.specs.Outlines.{edgeName, edgeText, edgesText, begins as beginsAt, headingText, ringText, ringsText, standing as standingOf, summaryText};
 
 // The edge number at a row, 0 past the end.
-fn edge_at(edges: &[u64], row: usize) -> u64
+pub fn edge_at(edges: &[u64], row: usize) -> u64
     ensures { λ r. ⌜ r ≡ at (now (edges .entry)) row ⌝ }
 {
     if row < edges.len() { edges[row] } else { 0 }
 }
 
 // The area of a ring, NaN past the end.
-fn area_at(area: &[f64], i: usize) -> f64
+pub fn area_at(area: &[f64], i: usize) -> f64
     ensures { λ r. ⌜ r ≡ getD (now (area .entry)) i nan ⌝ }
 {
     if i < area.len() { area[i] } else { 0.0 / 0.0 }
@@ -70,7 +70,7 @@ fn put_edges(
 }
 
 // Whether a ring is the first of its polygon.
-fn begins(group: &[u32], i: usize) -> bool
+pub fn begins(group: &[u32], i: usize) -> bool
     ensures { λ r. ⌜ r ≡ beginsAt (now (group .entry)) i ⌝ }
 {
     if i == 0 {

@@ -1,0 +1,4 @@
+-- A zone as lines for the tills.
+pub mod Rings
+pub mod Zones
+pub mod Telling

@@ -1,0 +1,33 @@
+-- A zone as lines for the tills: one with its file's name and its answer in words, then each ring as a list on one line.
+-- Assumes nothing.
+use Prim.Native.Nat.{ℕ}
+use mathlib.Core.List.{List, [], _++_}
+use lib.Ieee.{Float}
+use lib.ListN.{length}
+use Rattle.scope.specs.declared.ReadOut.{ReadOut}
+use Rattle.scope.specs.declared.ReadOut.the-variants.{Nothing, Closed, Outline, Refused}
+use Rattle.scope.specs.Lists.{at}
+use Rattle.scope.specs.Memory.{Output}
+use Rattle.text.specs.Text.{ascii}
+use Rattle.report.specs.Notes.{noted, areaText}
+use Rattle.report.specs.Outlines.{standing}
+use Rattle.report.specs.Refusals.{refusalText}
+use Rattle.zone_lines.specs.Rings.{ringLines}
+
+-- what an outline counts
+unfoldable pub countsText : ℕ → ℕ → ℕ → ℕ → Float → List ℕ
+countsText cells polygons rings edges first =
+    noted (ascii ": outline, cells ") cells []
+    ++ noted (ascii ", polygons ") polygons []
+    ++ noted (ascii ", rings ") rings []
+    ++ noted (ascii ", standing edges ") edges (ascii ", first outer area ")
+    ++ areaText first
+    ++ ascii "\n"
+
+-- The names of the two files; the lines of the cells; the table's edges; the answer and what was read out. A refusal is one line alone.
+unfoldable pub zoneText : List ℕ → List ℕ → List ℕ → List ℕ → ReadOut → Output → List ℕ
+zoneText table list lines edges Nothing o = list ++ ascii ": nothing, the list has no cells\n"
+zoneText table list lines edges Closed o = list ++ noted (ascii ": closed, cells ") (length lines) (ascii ", no edge stands\n")
+zoneText table list lines edges (Outline polygons rings first) o =
+    list ++ countsText (length lines) polygons rings (standing (o .start) (o .size) rings) first ++ ringLines edges o rings
+zoneText table list lines edges (Refused number index) o = refusalText table list number index (at lines index)

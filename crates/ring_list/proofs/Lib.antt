@@ -1,6 +1,4 @@
 -- The laws of this crate's definitions, and what its walks by hand share.
-pub mod Filled
 pub mod Listings
 pub mod Again
 pub mod Loan
-pub mod Room

@@ -26,9 +26,9 @@ use Rattle.scope.specs.Calls.{Reading, reading, readFrom, readVerdict, readingO
 use Rattle.scope.proofs.Sorting.{sort-length}
 use Rattle.scope.proofs.Tests.{and-left, and-right}
 use Rattle.scope.proofs.Verdicts.{first-accepts, second-accepts, require-holds}
-use Rattle.ring_list.specs.Records.{filled, Enough}
+use Rattle.ring_records.specs.Records.{filled, Enough}
 use Rattle.ring_list.specs.Listing.{agreeing, listed, readingAgreed, dissolvingAgreed, readingRings, dissolvingRings}
-use Rattle.ring_list.specs.declared.Ring.{Ring}
+use Rattle.ring_records.specs.declared.Ring.{Ring}
 
 pub record Fits (n : ℕ) (o : Output) (d : Reading) : Type 0 where
   pub records : ringsOf (d .answer) ≤ n

@@ -1,3 +1,2 @@
--- What the contracts of this crate cite beside `scope`.
+-- What the contracts of this crate cite beside `scope` and `ring_records`.
 pub mod Listing
-pub mod Records

@@ -9,8 +9,8 @@ use Rattle.scope.specs.Answers.{require, ringsOf}
 use Rattle.scope.specs.Table.{Table}
 use Rattle.scope.specs.Memory.{Memory, Output}
 use Rattle.scope.specs.Calls.{Reading, reading, readingOut, dissolving}
-use Rattle.ring_list.specs.Records.{filled}
-use Rattle.ring_list.specs.declared.Ring.{Ring}
+use Rattle.ring_records.specs.Records.{filled}
+use Rattle.ring_records.specs.declared.Ring.{Ring}
 
 pub record Listing : Type 0 where
   pub reading : Reading

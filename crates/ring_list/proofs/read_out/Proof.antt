@@ -48,24 +48,24 @@ use Rattle.scope.specs.Memory.{Memory, Output, memory, output}
 use Rattle.scope.specs.Calls.{Reading}
 use Rattle.scope.proofs.ReadOut as S
 use Rattle.scope.proofs.ReadOut.Laws as S′
-use Rattle.ring_list.specs.Records.{filled, Enough}
+use Rattle.ring_records.specs.Records.{filled, Enough}
 use Rattle.ring_list.specs.Listing.{readingAgreed}
-use Rattle.ring_list.specs.declared.Ring.{Ring}
+use Rattle.ring_records.specs.declared.Ring.{Ring}
 use Rattle.ring_list.proofs.Listings.{read-fits, read-lists, fills}
 use Rattle.ring_list.proofs.Loan.{at-name, Lent, lends, back-shared}
-use Rattle.ring_list.proofs.Ring as T
+use Rattle.ring_records.proofs.Ring as T
 use Rattle.ring_list.proofs.agreed.read_out_agreed as core
 use Rattle.ring_list.proofs.agreed.read_out_agreed.Symbol as core-def
 use Rattle.ring_list.proofs.agreed.read_out_agreed.Symbol.{name as #core}
 use Rattle.ring_list.proofs.agreed.read_out_agreed.Met as core-thm
-use Rattle.ring_list.proofs.ring_count as count
-use Rattle.ring_list.proofs.ring_count.Symbol as count-def
-use Rattle.ring_list.proofs.ring_count.Symbol.{name as #count}
-use Rattle.ring_list.proofs.ring_count.Met as count-thm
-use Rattle.ring_list.proofs.fill_rings as fill
-use Rattle.ring_list.proofs.fill_rings.Symbol as fill-def
-use Rattle.ring_list.proofs.fill_rings.Symbol.{name as #fill}
-use Rattle.ring_list.proofs.fill_rings.Met as fill-thm
+use Rattle.ring_records.proofs.ring_count as count
+use Rattle.ring_records.proofs.ring_count.Symbol as count-def
+use Rattle.ring_records.proofs.ring_count.Symbol.{name as #count}
+use Rattle.ring_records.proofs.ring_count.Met as count-thm
+use Rattle.ring_records.proofs.fill_rings as fill
+use Rattle.ring_records.proofs.fill_rings.Symbol as fill-def
+use Rattle.ring_records.proofs.fill_rings.Symbol.{name as #fill}
+use Rattle.ring_records.proofs.fill_rings.Met as fill-thm
 use Rattle.ring_list.proofs.read_out.Key.{name as #read-out}
 use Rattle.ring_list.proofs.read_out as f
 use Rattle.ring_list.proofs.read_out.Statement as stated
@@ -452,5 +452,5 @@ read-out-spec 𝓤 H 𝓜 𝓖 𝓡 =
     (tables 𝓤 H 𝓜 𝓡 code.env .C) (tables 𝓤 H 𝓜 𝓡 code.env .Λ) #read-out code.function (code.unfolded 𝓤 H 𝓜 𝓡)
     (meets 𝓤 H (𝓖 .A) (givenOf 𝓤 H 𝓜 𝓖) (𝓜 .mem) (𝓡 .run) (tablesOf 𝓤 H 𝓜 (tables 𝓤 H 𝓜 𝓡 code.env))
     (cited 𝓤 H (Core 𝓤 H (𝓖 .A) (𝓜 .mem) (𝓡 .run)) 𝓜 𝓡 code.env #core core-def.routine code.calls-ring-list·agreed·read-out-agreed (core-thm.met 𝓤 H 𝓜 𝓖 𝓡))
-    (cited 𝓤 H (Count 𝓤 H (𝓖 .A) (𝓜 .mem) (𝓡 .run)) 𝓜 𝓡 code.env #count count-def.routine code.calls-ring-list·ring-count (count-thm.met 𝓤 H 𝓜 𝓖 𝓡))
-    (cited 𝓤 H (Fill 𝓤 H (𝓖 .A) (𝓜 .mem) (𝓡 .run)) 𝓜 𝓡 code.env #fill fill-def.routine code.calls-ring-list·fill-rings (fill-thm.met 𝓤 H 𝓜 𝓖 𝓡)))
+    (cited 𝓤 H (Count 𝓤 H (𝓖 .A) (𝓜 .mem) (𝓡 .run)) 𝓜 𝓡 code.env #count count-def.routine code.calls-ring-records·ring-count (count-thm.met 𝓤 H 𝓜 𝓖 𝓡))
+    (cited 𝓤 H (Fill 𝓤 H (𝓖 .A) (𝓜 .mem) (𝓡 .run)) 𝓜 𝓡 code.env #fill fill-def.routine code.calls-ring-records·fill-rings (fill-thm.met 𝓤 H 𝓜 𝓖 𝓡)))

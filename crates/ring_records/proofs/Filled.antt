@@ -12,8 +12,8 @@ use mathlib.Core.Logic.{_⊎_, inl, inr, ⊎-elim}
 use lib.ListN.{length, length-set}
 use lib.Seq.{getD-set-same, getD-set-other}
 use lib.Ieee.{Float}
-use Rattle.ring_list.specs.Records.{blank, ringAt, recordAt, filled}
-use Rattle.ring_list.specs.declared.Ring.{Ring}
+use Rattle.ring_records.specs.Records.{blank, ringAt, recordAt, filled}
+use Rattle.ring_records.specs.declared.Ring.{Ring}
 
 -- below the next number: below it, or it
 below-next : (k i : ℕ) → k < suc i → (k < i) ⊎ (k ≡ i)

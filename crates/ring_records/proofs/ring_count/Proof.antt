@@ -1,9 +1,9 @@
--- `ring_list::ring_count` meets its contract: each variant counts what is defined.
+-- `ring_records::ring_count` meets its contract: each variant counts what is defined.
 -- Assumes nothing.
 use borrow.Author.Needs.{needs}
 use Rattle.scope.specs.Answers.{ringsOf}
-use Rattle.ring_list.proofs.ring_count.Statement.{statement}
-use Rattle.ring_list.proofs.ring_count.Tie as tie
+use Rattle.ring_records.proofs.ring_count.Statement.{statement}
+use Rattle.ring_records.proofs.ring_count.Tie as tie
 
 enum-told : tie.Need-enum-told
 enum-told c = search needs

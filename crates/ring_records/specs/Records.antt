@@ -6,7 +6,7 @@ use mathlib.Core.List.{List}
 use lib.Ieee.{Float, nan}
 use lib.ListN.{length, getD, set}
 use Rattle.scope.specs.Lists.{at}
-use Rattle.ring_list.specs.declared.Ring.{Ring}
+use Rattle.ring_records.specs.declared.Ring.{Ring}
 
 -- what is read past the end of a list of records
 abbrev pub blank : Ring

@@ -1,4 +1,4 @@
--- `ring_list::fill_rings` meets its contract: a walk of its MIR, by hand, with a loop and in each turn a call of `record_at`, which is covered.
+-- `ring_records::fill_rings` meets its contract: a walk of its MIR, by hand, with a loop and in each turn a call of `record_at`, which is covered.
 -- The borrow is opened once, before the loop, and closed once, after it. Between the two the row of records
 -- is the function's own, and a turn takes one record out of it, stores to it and puts it back.
 --     Toks, SS     the tokens of the four plain slices, and what the slices own: what `record_at` asks but for the number. SS can be had twice (`dup`), and the tokens come back from the call
@@ -53,21 +53,21 @@ use denote.Triple.Spec.{Meets, tripleOf}
 use denote.Triple.Table.{entered, cited}
 use denote.Triple.Walked.{says, needs, Stays, stay-slice, stay-none-slice, stay-none, walkOf, goes-slice, goes-none-slice, goes-none, Walks, ends-at, walked, walk-meets}
 use denote.Exit.{yes}
-use Rattle.ring_list.specs.Records.{blank, recordAt, filled}
-use Rattle.ring_list.specs.declared.Ring.{Ring}
-use Rattle.ring_list.proofs.Filled.{keeps}
-use Rattle.ring_list.proofs.Room.{bytes-24}
-use Rattle.ring_list.proofs.Ring as T
-use Rattle.ring_list.proofs.Ring.Laws as T′
-use Rattle.ring_list.proofs.record_at as g
-use Rattle.ring_list.proofs.record_at.Symbol as g-def
-use Rattle.ring_list.proofs.record_at.Symbol.{name as #ring-list·record-at}
-use Rattle.ring_list.proofs.record_at.Met as g-thm
-use Rattle.ring_list.proofs.fill_rings.Key.{name as #ring-list·fill-rings}
-use Rattle.ring_list.proofs.fill_rings as f
-use Rattle.ring_list.proofs.fill_rings.Statement as stated
-use Rattle.ring_list.proofs.fill_rings.Code as code
-use Rattle.ring_list.proofs.fill_rings.Code.Mir as mir′
+use Rattle.ring_records.specs.Records.{blank, recordAt, filled}
+use Rattle.ring_records.specs.declared.Ring.{Ring}
+use Rattle.ring_records.proofs.Filled.{keeps}
+use Rattle.ring_records.proofs.Room.{bytes-24}
+use Rattle.ring_records.proofs.Ring as T
+use Rattle.ring_records.proofs.Ring.Laws as T′
+use Rattle.ring_records.proofs.record_at as g
+use Rattle.ring_records.proofs.record_at.Symbol as g-def
+use Rattle.ring_records.proofs.record_at.Symbol.{name as #ring-records·record-at}
+use Rattle.ring_records.proofs.record_at.Met as g-thm
+use Rattle.ring_records.proofs.fill_rings.Key.{name as #ring-records·fill-rings}
+use Rattle.ring_records.proofs.fill_rings as f
+use Rattle.ring_records.proofs.fill_rings.Statement as stated
+use Rattle.ring_records.proofs.fill_rings.Code as code
+use Rattle.ring_records.proofs.fill_rings.Code.Mir as mir′
 
 abbrev stayed : Stays (f.ended .signature .params) (f.ended .kept)
 stayed = (
@@ -206,7 +206,7 @@ module _ {M : Type 1} (𝓤 : URA M) (H : Heap 𝓤) (A : Atoms 𝓤) (W : Given
   slice₄ = sliceTy (tyRef (named 4) imm (pointee (f64 .written)))
 
   -- what `requires` says, and what the parameters' types say
-  module _ (𝓣 : Tables 𝓤 H) (fm : FmC 𝓤 H (W .laws) (𝓣 .C)) (known : Triple 𝓤 (𝓣 .C #ring-list·record-at) (RecordAt 𝓤 H A mem run)) (gn : Room T.the-row (length ys)) (n-fits : n < 2 ^ 64)
+  module _ (𝓣 : Tables 𝓤 H) (fm : FmC 𝓤 H (W .laws) (𝓣 .C)) (known : Triple 𝓤 (𝓣 .C #ring-records·record-at) (RecordAt 𝓤 H A mem run)) (gn : Room T.the-row (length ys)) (n-fits : n < 2 ^ 64)
       (h : (n ≤ length ys) × (n ≤ length (x₁ .now)) × (n ≤ length (x₂ .now)) × (n ≤ length (x₃ .now)) × (n ≤ length (x₄ .now)))
       (l₀ l₁ l₂ l₃ l₄ l₅ l₆ l₇ l₈ l₉ l₁₀ l₁₁ : ℕ) where
     abbrev C : Calls 𝓤 H
@@ -296,7 +296,7 @@ module _ {M : Type 1} (𝓤 : URA M) (H : Heap 𝓤) (A : Atoms 𝓤) (W : Given
     turns : (i : Upto) → Sq W (At i) (runs C Λ En mir′.turn-1 (anyQ (Turned i)))
     turns i = turns-by i (ltb (i .0) n) refl
 
-  module _ (𝓣 : Tables 𝓤 H) (fm : FmC 𝓤 H (W .laws) (𝓣 .C)) (known : Triple 𝓤 (𝓣 .C #ring-list·record-at) (RecordAt 𝓤 H A mem run)) where
+  module _ (𝓣 : Tables 𝓤 H) (fm : FmC 𝓤 H (W .laws) (𝓣 .C)) (known : Triple 𝓤 (𝓣 .C #ring-records·record-at) (RecordAt 𝓤 H A mem run)) where
     walk : Room T.the-row (length ys) → n < 2 ^ 64 → Room u32 (length (x₁ .now)) → Room u32 (length (x₂ .now)) → Room u32 (length (x₃ .now)) → Room f64 (length (x₄ .now))
         → (n ≤ length ys) × (n ≤ length (x₁ .now)) × (n ≤ length (x₂ .now)) × (n ≤ length (x₃ .now)) × (n ≤ length (x₄ .now))
         → ent 𝓤 (onEntry 𝓤 H A f.signature κs qs x at)
@@ -315,7 +315,7 @@ module _ {M : Type 1} (𝓤 : URA M) (H : Heap 𝓤) (A : Atoms 𝓤) (W : Given
         first ! $ blocks ! $ loops ! 𝓣 Nearer Nearer-wf (At 𝓣 fm known gn n-fits h l₀ l₁ l₂ l₃ l₄ l₅ l₆ l₇ l₈ l₉ l₁₀ l₁₁) (turns 𝓣 fm known gn n-fits h l₀ l₁ l₂ l₃ l₄ l₅ l₆ l₇ l₈ l₉ l₁₀ l₁₁) (0, zero-le)))))))))))))
 
 module _ {M : Type 1} (𝓤 : URA M) (H : Heap 𝓤) (A : Atoms 𝓤) (W : Given 𝓤 H A) (mem : Memory → SProp 𝓤) (run : Routine → Fun 𝓤) where
-  walks : (𝓣 : Tables 𝓤 H) → Triple 𝓤 (𝓣 .C #ring-list·record-at) (RecordAt 𝓤 H A mem run) → Walks 𝓤 H A f.ended stayed (WpFn 𝓤 H (𝓣 .C) (𝓣 .Λ) code.function) (f.clauses 𝓤 H A mem run)
+  walks : (𝓣 : Tables 𝓤 H) → Triple 𝓤 (𝓣 .C #ring-records·record-at) (RecordAt 𝓤 H A mem run) → Walks 𝓤 H A f.ended stayed (WpFn 𝓤 H (𝓣 .C) (𝓣 .Λ) code.function) (f.clauses 𝓤 H A mem run)
   walks 𝓣 known = walked 𝓤 H A f.ended stayed (f.clauses 𝓤 H A mem run) (WpFn 𝓤 H (𝓣 .C) (𝓣 .Λ) code.function)
       (λ κs. (slice-vals, (slice-vals, (slice-vals, (slice-vals, (slice-vals, (uint-vals w64, tt)))))))
       (λ κs. (mut-slice-tells (named 0) (κs .0) T.the-row, (shr-slice-tells (named 1) (κs .1 .0) u32, (shr-slice-tells (named 2) (κs .1 .1 .0) u32, (shr-slice-tells (named 3) (κs .1 .1 .1 .0) u32, (shr-slice-tells (named 4) (κs .1 .1 .1 .1 .0) f64, (uint-tells w64, tt)))))))
@@ -324,7 +324,7 @@ module _ {M : Type 1} (𝓤 : URA M) (H : Heap 𝓤) (A : Atoms 𝓤) (W : Given
       (a .0 .ptr .0) (a .0 .ptr .1) (a .0 .name) (a .0 .now) (a .1 .1 .1 .1 .1 .0) (a .1 .0) (a .1 .1 .0) (a .1 .1 .1 .0) (a .1 .1 .1 .1 .0) 𝓣 (fmOf 𝓤 H (W .laws) 𝓣) known
       (are .0 .0 .1) (are .1 .1 .1 .1 .1 .0 .1) (are .1 .0 .0 .1) (are .1 .1 .0 .0 .1) (are .1 .1 .1 .0 .0 .1) (are .1 .1 .1 .1 .0 .0 .1)))
 
-meets : {M : Type 1} (𝓤 : URA M) (H : Heap 𝓤) (A : Atoms 𝓤) → Given 𝓤 H A → (mem : Memory → SProp 𝓤) (run : Routine → Fun 𝓤) (𝓣 : Tables 𝓤 H) → Triple 𝓤 (𝓣 .C #ring-list·record-at) (RecordAt 𝓤 H A mem run)
+meets : {M : Type 1} (𝓤 : URA M) (H : Heap 𝓤) (A : Atoms 𝓤) → Given 𝓤 H A → (mem : Memory → SProp 𝓤) (run : Routine → Fun 𝓤) (𝓣 : Tables 𝓤 H) → Triple 𝓤 (𝓣 .C #ring-records·record-at) (RecordAt 𝓤 H A mem run)
     → Meets 𝓤 H A f.signature (WpFn 𝓤 H (𝓣 .C) (𝓣 .Λ) code.function) (f.spec 𝓤 H A mem run)
 meets 𝓤 H A W mem run 𝓣 known =
     walk-meets 𝓤 H A f.ended stayed W (
@@ -343,6 +343,6 @@ pub fill-rings-spec : {M : Type 1} → stated.statement M
 unfolding code.routine tablesOf
 fill-rings-spec 𝓤 H 𝓜 𝓖 𝓡 =
     entered 𝓤 H (tripleOf 𝓤 H (𝓖 .A) f.signature (f.spec 𝓤 H (𝓖 .A) (𝓜 .mem) (𝓡 .run)))
-    (tables 𝓤 H 𝓜 𝓡 code.env .C) (tables 𝓤 H 𝓜 𝓡 code.env .Λ) #ring-list·fill-rings code.function (code.unfolded 𝓤 H 𝓜 𝓡)
+    (tables 𝓤 H 𝓜 𝓡 code.env .C) (tables 𝓤 H 𝓜 𝓡 code.env .Λ) #ring-records·fill-rings code.function (code.unfolded 𝓤 H 𝓜 𝓡)
     (meets 𝓤 H (𝓖 .A) (givenOf 𝓤 H 𝓜 𝓖) (𝓜 .mem) (𝓡 .run) (tablesOf 𝓤 H 𝓜 (tables 𝓤 H 𝓜 𝓡 code.env))
-    (cited 𝓤 H (RecordAt 𝓤 H (𝓖 .A) (𝓜 .mem) (𝓡 .run)) 𝓜 𝓡 code.env #ring-list·record-at g-def.routine code.calls-ring-list·record-at (g-thm.met 𝓤 H 𝓜 𝓖 𝓡)))
+    (cited 𝓤 H (RecordAt 𝓤 H (𝓖 .A) (𝓜 .mem) (𝓡 .run)) 𝓜 𝓡 code.env #ring-records·record-at g-def.routine code.calls-ring-records·record-at (g-thm.met 𝓤 H 𝓜 𝓖 𝓡)))

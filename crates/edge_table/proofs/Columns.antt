@@ -1,10 +1,11 @@
 -- Passes over a column with no early end, and what they tell of the whole table.
 --     Passing, passing-start, -more, -done     the loop: `kept` says that the test holds at every row so far
+--     side-not, bits-past   whether an edge is edge 1 of a pentagon
 --     sides-end         past the first edge whose top byte is above 17 no edge is edge 1
 --     columns-from      the passes over the columns, one by one
 --     none-bad          where every column passes, every row does
 -- Assumes nothing.
-use Prim.Native.Nat.{ℕ, _+_, _-_, _*_, _/_, _^_, _<_, _≤_}
+use Prim.Native.Nat.{ℕ, _+_, _-_, _*_, _/_, _%_, _^_, _<_, _≤_}
 use mathlib.Core.Path.{_≡_, refl, sym, _∙_, ap}
 use mathlib.Core.Bool.{Bool, true, false, _&&_, not}
 use mathlib.Core.List.{List}
@@ -23,7 +24,8 @@ use Rattle.scope.proofs.Scan.{passes-at, passes-all, Going}
 use Rattle.scope.proofs.Tables.{Ascending, ascending}
 use Rattle.scope.proofs.Edges.{validEdge-is}
 use Rattle.index.proofs.Digits.{digits-fit}
-use Rattle.edge_table.specs.Straight.{fieldsKept, ones, sevens, sevensKept, sideKept, finiteAt, Columns, NoneBad}
+use Rattle.index.proofs.Prefix.{pentagon-at-once}
+use Rattle.edge_table.specs.Straight.{fieldsKept, ones, sevens, sevensKept, sideKept, finiteAt, SidesAsk, Columns, NoneBad}
 
 -- ---- the loop
 
@@ -61,8 +63,15 @@ digits-at target x e = ap (λ (r : ℕ). eqb (sevens x) (ones / 2 ^ (3 * r))) (s
 
 -- ---- edge 1 of a pentagon
 
-pub side-is : (x : ℕ) {b v : Bool} → b ≡ isPentagon x → (b && eqb (x / 2 ^ 56) 17) ≡ v → not (isPentagon x && eqb (x / 2 ^ 56) 17) ≡ not v
-side-is x e t = rw (← e) (ap not t)
+-- few edges have only zeros up to their resolution
+pub side-not : (x below : ℕ) → below ≡ 3 * (15 - resolutionOf x) → (x % 2 ^ 45 / 2 ^ below ≡ 0 → ⊥) → (isPentagon x && eqb (x / 2 ^ 56) 17) ≡ false
+side-not x below e n = rw (pentagon-at-once x, ne-eqb (x % 2 ^ 45 / 2 ^ (3 * (15 - resolutionOf x))) 0 (λ z. n (ap (λ (k : ℕ). x % 2 ^ 45 / 2 ^ k) e ∙ z)))
+
+-- the bits past the target's resolution
+pub bits-past : (es : List ℕ) (target : ℕ) → SidesAsk es target → (i : ℕ) → i < length es → 3 * (15 - target) ≡ 3 * (15 - resolutionOf (at es i))
+bits-past es target A i h =
+    let e = eqb-true (resolutionOf (at es i)) target (and-left _ (leb (baseCell (at es i)) 121) (passes-at (fieldsKept target es) (length es) (A .fields) i h)) in
+    ap (λ (r : ℕ). 3 * (15 - r)) (sym e)
 
 abbrev top : List ℕ → ℕ → ℕ
 top es i = at es i / 2 ^ 56
@@ -85,19 +94,17 @@ module _ (es : List ℕ) (O : Ascending es) where
 
 -- ---- the whole table
 
-pub columns-from : (t : Table) {g d o p f : Bool} → (g ≡ true → passes (fieldsKept (targetOf t) (t .edges)) (rowCount t) ≡ true)
-    → (d ≡ true → passes (sevensKept (ones / 2 ^ (3 * targetOf t)) (t .edges)) (rowCount t) ≡ true) → (o ≡ true → passes (ascends (t .edges)) (rowCount t) ≡ true)
-    → p ≡ passes (paired (t .reverse)) (length (t .reverse)) → f ≡ passes (finiteAt (t .area)) (length (t .area))
-    → (leb 17 (top (t .edges) 0) && leb (top (t .edges) (rowCount t - 1)) 22 && g && d && o && (p && f)) ≡ true → Columns t
-columns-from t {g} {d} {o} {p} {f} eg ed eo ep ef e =
+pub columns-from : (t : Table) {d o p f : Bool} → (d ≡ true → passes (sevensKept (ones / 2 ^ (3 * targetOf t)) (t .edges)) (rowCount t) ≡ true)
+    → (o ≡ true → passes (ascends (t .edges)) (rowCount t) ≡ true) → p ≡ passes (paired (t .reverse)) (length (t .reverse)) → f ≡ passes (finiteAt (t .area)) (length (t .area))
+    → (leb 17 (top (t .edges) 0) && leb (top (t .edges) (rowCount t - 1)) 22 && d && o && (p && f)) ≡ true → Columns t
+columns-from t {d} {o} {p} {f} ed eo ep ef e =
     record {
       first = leb-true 17 (top (t .edges) 0) (and-left low high tops);
       last = leb-true (top (t .edges) (rowCount t - 1)) 22 (and-right low high tops);
-      fields = eg (and-right ends g with-fields);
-      digits = ed (and-right (ends && g) d with-sevens);
-      order = eo (and-right (ends && g && d) o with-order);
-      pairs = sym ep ∙ and-left p f (and-right (ends && g && d && o) (p && f) e);
-      finite = sym ef ∙ and-right p f (and-right (ends && g && d && o) (p && f) e);
+      digits = ed (and-right ends d with-digits);
+      order = eo (and-right (ends && d) o with-order);
+      pairs = sym ep ∙ and-left p f (and-right (ends && d && o) (p && f) e);
+      finite = sym ef ∙ and-right p f (and-right (ends && d && o) (p && f) e);
     }
   where
     low : Bool
@@ -109,19 +116,16 @@ columns-from t {g} {d} {o} {p} {f} eg ed eo ep ef e =
     ends : Bool
     ends = low && high
 
-    with-order : (ends && g && d && o) ≡ true
-    with-order = and-left (ends && g && d && o) (p && f) e
+    with-order : (ends && d && o) ≡ true
+    with-order = and-left (ends && d && o) (p && f) e
 
-    with-sevens : (ends && g && d) ≡ true
-    with-sevens = and-left (ends && g && d) o with-order
-
-    with-fields : (ends && g) ≡ true
-    with-fields = and-left (ends && g) d with-sevens
+    with-digits : (ends && d) ≡ true
+    with-digits = and-left (ends && d) o with-order
 
     tops : ends ≡ true
-    tops = and-left ends g with-fields
+    tops = and-left ends d with-digits
 
-module _ (t : Table) (C : Columns t) (sides : passes (sideKept (t .edges)) (rowCount t) ≡ true) where
+module _ (t : Table) (C : Columns t) (kept : passes (fieldsKept (targetOf t) (t .edges)) (rowCount t) ≡ true) (sides : passes (sideKept (t .edges)) (rowCount t) ≡ true) where
   abbrev es : List ℕ
   es = t .edges
 
@@ -130,7 +134,7 @@ module _ (t : Table) (C : Columns t) (sides : passes (sideKept (t .edges)) (rowC
 
   module _ (i : ℕ) (h : i < rowCount t) where
     fields : (eqb (resolutionOf (at es i)) (targetOf t) && leb (baseCell (at es i)) 121) ≡ true
-    fields = passes-at (fieldsKept (targetOf t) es) (rowCount t) (C .fields) i h
+    fields = passes-at (fieldsKept (targetOf t) es) (rowCount t) kept i h
 
     resolution : eqb (resolutionOf (at es i)) (targetOf t) ≡ true
     resolution = and-left _ (leb (baseCell (at es i)) 121) fields

@@ -1,22 +1,20 @@
 -- Passes that gather bits: what the bits tell at the end, they tell of every row.
 --     Showing, showing-start, -more, -done     the loop: where what is gathered is clear, the test holds at every row so far
---     fields-resolution, fields-off      the resolution and the base cell, by the four bits above the base cell
 --     sevens-off      the digits 7
 --     rising-start, rising-more, rising-done   neighbours in order, by the top bit
 -- Assumes nothing.
-use Prim.Native.Nat.{ℕ, _+_, _-_, _/_, _%_, _^_, _<_, _≤_}
-use mathlib.Core.Path.{_≡_, refl, sym, _∙_, ap}
+use Prim.Native.Nat.{ℕ, _+_, _-_, _^_, _<_, _≤_}
+use mathlib.Core.Path.{_≡_, _∙_, ap}
 use mathlib.Core.Bool.{Bool, true, _&&_}
 use mathlib.Core.List.{List}
 use mathlib.Core.Logic.{⊎-elim}
 use native.Mathlib.Nat.{eq-or-lt-of-le}
 use native.Mathlib.Omega.{arith}
-use lib.Bits.{bitAnd, bitOr, bitXor, or-add-and, xor-add-and, and-le-l, and-le-r, or-shr, or-mod, xor-shr, xor-mod}
-use lib.Dec.{eqb, leb, ltb}
+use lib.Bits.{bitAnd, bitOr, bitXor, or-add-and, xor-add-and, and-le-l, and-le-r}
+use lib.Dec.{eqb, ltb}
 use lib.ListN.{length}
-use borrow.Author.Tests.{eq-eqb, ne-eqb, lt-ltb, ltb-true, le-leb}
+use borrow.Author.Tests.{eq-eqb, ne-eqb, lt-ltb, ltb-true}
 use Rattle.scope.specs.Lists.{at, passes}
-use Rattle.scope.specs.Cells.{resolutionOf, baseCell}
 use Rattle.scope.specs.Table.{ascends}
 use Rattle.scope.proofs.Tests.{and-left, and-right, and-both}
 use Rattle.scope.proofs.Scan.{passes-at, passes-all}
@@ -57,40 +55,6 @@ xor-none a b e =
     let l = and-le-l a b in
     let r = and-le-r a b in
     omega arith
-
-abbrev four : ℕ → ℕ
-four y = y / 2 ^ 7 % 2 ^ 4
-
-or-four : (a b : ℕ) → four (bitOr a b) ≡ bitOr (four a) (four b)
-or-four a b = ap (λ (k : ℕ). k % 2 ^ 4) (or-shr a b 7) ∙ or-mod (a / 2 ^ 7) (b / 2 ^ 7) 4
-
-xor-four : (a b : ℕ) → four (bitXor a b) ≡ bitXor (four a) (four b)
-xor-four a b = ap (λ (k : ℕ). k % 2 ^ 4) (xor-shr a b 7) ∙ xor-mod (a / 2 ^ 7) (b / 2 ^ 7) 4
-
-pub fields-resolution : (x : ℕ) → four (x / 2 ^ 45) ≡ resolutionOf x
-fields-resolution x = omega arith
-
-base-fits : (y : ℕ) → four (y + 6) ≡ four y → y % 128 ≤ 121
-base-fits y e = omega arith
-
-pub fields-off : (x wanted off : ℕ) → four (bitOr (bitOr off (bitXor (x / 2 ^ 45) wanted)) (bitXor (x / 2 ^ 45 + 6) wanted)) ≡ 0
-    → (four off ≡ 0) × ((eqb (resolutionOf x) (four wanted) && leb (baseCell x) 121) ≡ true)
-fields-off x wanted off e = (outer .0, and-both _ _ (eq-eqb _ _ (sym (fields-resolution x) ∙ same-four)) (le-leb _ _ (base-fits y (six-four ∙ sym same-four))))
-  where
-    y : ℕ
-    y = x / 2 ^ 45
-
-    all : (four (bitOr off (bitXor y wanted)) ≡ 0) × (four (bitXor (y + 6) wanted) ≡ 0)
-    all = or-none _ _ (sym (or-four (bitOr off (bitXor y wanted)) (bitXor (y + 6) wanted)) ∙ e)
-
-    outer : (four off ≡ 0) × (four (bitXor y wanted) ≡ 0)
-    outer = or-none _ _ (sym (or-four off (bitXor y wanted)) ∙ all .0)
-
-    same-four : four y ≡ four wanted
-    same-four = xor-none _ _ (sym (xor-four y wanted) ∙ outer .1)
-
-    six-four : four (y + 6) ≡ four wanted
-    six-four = xor-none _ _ (sym (xor-four (y + 6) wanted) ∙ all .1)
 
 pub sevens-off : (off found wanted : ℕ) → bitOr off (bitXor found wanted) ≡ 0 → (off ≡ 0) × (eqb found wanted ≡ true)
 sevens-off off found wanted e =

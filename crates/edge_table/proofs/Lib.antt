@@ -2,6 +2,8 @@
 pub mod Floats
 pub mod Noting
 pub mod Gathered
+pub mod Halves
+pub mod Blocks
 pub mod Columns
 pub mod Search
 pub mod Turns

@@ -1,7 +1,8 @@
 -- The row of an edge by halving: the loop's invariant and its moves. How many turns it takes is in Turns.
 --     Halving es e low left        the rows below low have smaller edges than e, those past the rows left have no smaller one
 --     halving-start, halving-up, halving-down     begin; the middle is below e; it is not
---     met-at, met-absent, met-past   no row is left: low is a row that holds e, one that does not, or past the last
+--     halving-met                    no row is left
+--     met-at, met-absent, met-past   where the rows below e end there is a row that holds e, one that does not, or none
 -- Assumes nothing.
 use Prim.Native.Nat.{ℕ, _+_, _-_, _<_, _≤_}
 use mathlib.Core.Path.{_≡_}
@@ -16,6 +17,7 @@ use Rattle.scope.specs.Table.{findRow}
 use Rattle.scope.proofs.Tests.{le-or-lt}
 use Rattle.scope.proofs.Tables.{Ascending}
 use Rattle.scope.proofs.RowSearch.{row-is, row-none, found-at, found-absent}
+use Rattle.edge_table.specs.Search.{RowsBelow}
 
 pub record Halving (es : List ℕ) (e low left : ℕ) : Type 0 where
   pub within : low + left ≤ length es
@@ -51,18 +53,20 @@ module _ {es : List ℕ} {e low left : ℕ} (asc : Ascending es) (h : Halving es
       above = λ k l n. let w = least k l n in omega arith;
     }
 
-  -- no row is left
-  module _ (met : left ≤ 0) where
-    pub met-at : low < length es → at es low ≡ e → At low ≡ findRow es e
-    met-at l q = found-at es e low (row-is es e asc low l q) l
+pub halving-met : {es : List ℕ} {e low left : ℕ} → Halving es e low left → left ≤ 0 → RowsBelow es e low
+halving-met h met = record { within = omega (arith, h .within); below = h .below; above = λ k l n. h .above k (omega arith) n }
 
-    pub met-past : length es ≤ low → Absent ≡ findRow es e
-    met-past l = found-absent es e (row-none es e (λ k i q. let w = h .below k (omega arith) in omega arith))
+module _ {es : List ℕ} {e low : ℕ} (asc : Ascending es) (h : RowsBelow es e low) where
+  pub met-at : low < length es → at es low ≡ e → At low ≡ findRow es e
+  met-at l q = found-at es e low (row-is es e asc low l q) l
 
-    pub met-absent : low < length es → (at es low ≡ e → ⊥) → Absent ≡ findRow es e
-    met-absent l other = found-absent es e (row-none es e (λ k i q.
-        ⊎-elim
-        (λ (a : low ≤ k).
-        ⊎-elim (λ z. other (rw z q)) (λ s. let w = asc .order low k s i in let v = h .above low (omega arith) l in omega arith) (eq-or-lt-of-le a))
-        (λ (b : k < low). let w = h .below k b in omega arith)
-        (le-or-lt low k)))
+  pub met-past : length es ≤ low → Absent ≡ findRow es e
+  met-past l = found-absent es e (row-none es e (λ k i q. let w = h .below k (omega arith) in omega arith))
+
+  pub met-absent : low < length es → (at es low ≡ e → ⊥) → Absent ≡ findRow es e
+  met-absent l other = found-absent es e (row-none es e (λ k i q.
+      ⊎-elim
+      (λ (a : low ≤ k).
+      ⊎-elim (λ z. other (rw z q)) (λ s. let w = asc .order low k s i in let v = h .above low (omega arith) l in omega arith) (eq-or-lt-of-le a))
+      (λ (b : k < low). let w = h .below k b in omega arith)
+      (le-or-lt low k)))

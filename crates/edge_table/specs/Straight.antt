@@ -1,11 +1,11 @@
 -- The rules of a table that a pass over one column can tell.
 -- Assumes nothing.
-use Prim.Native.Nat.{ℕ, _-_, _*_, _/_, _^_, _≤_}
+use Prim.Native.Nat.{ℕ, _-_, _*_, _/_, _^_, _<_, _≤_}
 use mathlib.Core.Path.{_≡_}
 use mathlib.Core.Bool.{Bool, true, not, _&&_}
 use mathlib.Core.List.{List}
 use lib.Bits.{bitAnd}
-use lib.Dec.{eqb, leb}
+use lib.Dec.{eqb, leb, ltb}
 use lib.ListN.{length, getD}
 use lib.Ieee.{Float, nan}
 use Rattle.scope.specs.Lists.{at, passes}
@@ -33,11 +33,20 @@ sideKept es i = not (isPentagon (at es i) && eqb (at es i / 2 ^ 56) 17)
 abbrev pub finiteAt : List Float → ℕ → Bool
 finiteAt terms i = isFinite (getD terms i nan)
 
+-- The reverse is in the second half, from `half` on, and names the row back.
+abbrev pub crosses : ℕ → List ℕ → ℕ → Bool
+crosses half rs i = leb half (at rs i) && ltb (at rs i) (length rs) && eqb (at rs (at rs i)) i
+
+-- Edges in order, with the target's resolution.
+pub record SidesAsk (es : List ℕ) (target : ℕ) : Type 0 where
+  pub small : target < 16
+  pub order : passes (ascends es) (length es) ≡ true
+  pub fields : passes (fieldsKept target es) (length es) ≡ true
+
 -- What the passes over the columns have shown.
 pub record Columns (t : Table) : Type 0 where
   pub first : 17 ≤ at (t .edges) 0 / 2 ^ 56
   pub last : at (t .edges) (rowCount t - 1) / 2 ^ 56 ≤ 22
-  pub fields : passes (fieldsKept (targetOf t) (t .edges)) (rowCount t) ≡ true
   pub digits : passes (sevensKept (ones / 2 ^ (3 * targetOf t)) (t .edges)) (rowCount t) ≡ true
   pub order : passes (ascends (t .edges)) (rowCount t) ≡ true
   pub pairs : passes (paired (t .reverse)) (length (t .reverse)) ≡ true

@@ -14,6 +14,6 @@ abbrev pub Turns : ℕ → ℕ → Type 0
 Turns zero n = Unit {0}
 Turns (suc k) n = (m : ℕ) × Turn n m × Turns k m
 
--- How often n, a number of 64 bits, can be halved: the lowest k for which n is below 2 ^ k. It is the measure of the loop of `find_row`.
+-- How often n, a number of 64 bits, can be halved: the lowest k for which n is below 2 ^ k. It is the measure of the loop of `rows_below`.
 unfoldable pub halvings : ℕ → ℕ
 halvings n = firstBad (λ k. leb (2 ^ k) n) 65

@@ -2,33 +2,22 @@
 // rows at a time; which row is the lowest bad one is asked only where a pass fails.
 use crate::is_finite;
 use crate::row_paired;
+use crate::rows_below;
 use index::is_pentagon;
 use index::resolution;
+use slices::at32;
 ghost use mathlib.Core.Path.{_≡_};
-ghost use mathlib.Core.Bool.{true};
-ghost use Prim.Native.Nat.{_/_, _%_, _^_, _<_, _≤_};
+ghost use mathlib.Core.Bool.{true, _&&_};
+ghost use Prim.Native.Nat.{_-_, _*_, _/_, _^_, _<_, _≤_};
+ghost use lib.Dec.{eqb};
 ghost use lib.ListN.{length};
 ghost use Rattle.scope.specs.Lists.{passes};
+ghost use Rattle.scope.specs.Cells.{resolutionOf, isPentagon};
 ghost use Rattle.scope.specs.Table.{table, ascends, paired};
-ghost use Rattle.edge_table.specs.Straight.{fieldsKept, sevensKept, sideKept, finiteAt, Columns, NoneBad};
+ghost use Rattle.edge_table.specs.Straight.{fieldsKept, sevensKept, sideKept, finiteAt, crosses, SidesAsk, Columns, NoneBad};
 
 // A one at the lowest bit of each of the fifteen digits.
 const ONES: u64 = 0o111_111_111_111_111;
-
-// Every edge has the resolution of `wanted`, which is an edge's fields above its digits, and a base cell: with 6 more a base cell from 122
-// on carries into the resolution. What differs is gathered as bits, for a pass that only gathers takes two rows at a time.
-fn fields_kept(edges: &[u64], wanted: u64) -> bool
-    ensures { λ b. ⌜ (b ≡ true → passes (fieldsKept (wanted / 2 ^ 7 % 2 ^ 4) (now (edges .entry))) (length (now (edges .entry))) ≡ true) ⌝ }
-{
-    let mut off: u64 = 0;
-    let mut i: usize = 0;
-    while i < edges.len() {
-        let fields = edges[i] >> 45;
-        off = off | (fields ^ wanted) | ((fields + 6) ^ wanted);
-        i += 1;
-    }
-    (off >> 7) % 16 == 0
-}
 
 // The digits 7 of every edge are the wanted ones: a digit is 7 where all its three bits are set.
 fn sevens_kept(edges: &[u64], wanted: u64) -> bool
@@ -81,7 +70,28 @@ fn terms_finite(area: &[f64]) -> bool
     kept
 }
 
-fn rows_paired(reverse: &[u32]) -> bool
+// The reverse of row `i` is in the second half and names row `i` back.
+fn crosses_at(reverse: &[u32], half: usize, i: usize) -> bool
+    ensures { λ b. ⌜ b ≡ crosses half (now (reverse .entry)) i ⌝ }
+{
+    let back = at32(reverse, i);
+    (half <= back) & (back < reverse.len()) & (at32(reverse, back) == i)
+}
+
+fn halves_cross(reverse: &[u32], half: usize) -> bool
+    ensures { λ b. ⌜ b ≡ passes (crosses half (now (reverse .entry))) half ⌝ }
+{
+    let mut i: usize = 0;
+    while i < half {
+        if !crosses_at(reverse, half, i) {
+            return false;
+        }
+        i += 1;
+    }
+    true
+}
+
+fn each_paired(reverse: &[u32]) -> bool
     ensures { λ b. ⌜ b ≡ passes (paired (now (reverse .entry))) (length (now (reverse .entry))) ⌝ }
 {
     let mut kept = true;
@@ -93,18 +103,60 @@ fn rows_paired(reverse: &[u32]) -> bool
     kept
 }
 
+// Where a table crosses no face of the icosahedron, the reverses of edges 1 to 3 are edges 4 to 6: its first half names its second, and
+// that tells of all rows.
+fn rows_paired(reverse: &[u32]) -> bool
+    ensures { λ b. ⌜ b ≡ passes (paired (now (reverse .entry))) (length (now (reverse .entry))) ⌝ }
+{
+    let half = reverse.len() >> 1;
+    if (reverse.len() == 2 * half) & halves_cross(reverse, half) {
+        return true;
+    }
+    each_paired(reverse)
+}
+
+// Every edge has the target's resolution and a base cell. Rows in order stand by their top bytes, 17 to 22, and then by these fields: so
+// the rows of a top byte begin where those of the one before it end. `block` is the top byte and the resolution, 16 for each byte.
+fn fields_kept(edges: &[u64], target: u64) -> bool
+    requires { ⌜ (passes (ascends (now edges)) (length (now edges)) ≡ true) × (target < 16) ⌝ }
+    ensures { λ b. ⌜ (b ≡ true → passes (fieldsKept target (now (edges .entry))) (length (now (edges .entry))) ≡ true) ⌝ }
+{
+    let mut end: usize = 0;
+    let mut block = 272 + target;
+    while block < 368 {
+        if rows_below(edges, block * 0x10_0000_0000_0000) != end {
+            return false;
+        }
+        end = rows_below(edges, (block * 128 + 122) * 0x2000_0000_0000);
+        block += 16;
+    }
+    end == edges.len()
+}
+
+// Edge 1 of a pentagon. Few edges have only zeros up to their resolution, past which come so many bits: this is asked first.
+fn is_first_side(x: u64, below: usize) -> bool
+    requires { ⌜ below ≡ 3 * (15 - resolutionOf x) ⌝ }
+    ensures { λ b. ⌜ b ≡ (isPentagon x && eqb (x / 2 ^ 56) 17) ⌝ }
+{
+    if (x % 0x2000_0000_0000) >> below != 0 {
+        return false;
+    }
+    is_pentagon(x) & (x >> 56 == 17)
+}
+
 // No edge is edge 1 of a pentagon: these come first in a table in order.
-fn sides_kept(edges: &[u64]) -> bool
-    requires { ⌜ passes (ascends (now edges)) (length (now edges)) ≡ true ⌝ }
+fn sides_kept(edges: &[u64], target: usize) -> bool
+    requires { ⌜ SidesAsk (now edges) target ⌝ }
     ensures { λ b. ⌜ b ≡ passes (sideKept (now (edges .entry))) (length (now (edges .entry))) ⌝ }
 {
+    let below = 3 * (15 - target);
     let mut i: usize = 0;
     while i < edges.len() {
         let x = edges[i];
         if 17 < x >> 56 {
             return true;
         }
-        if is_pentagon(x) & (x >> 56 == 17) {
+        if is_first_side(x, below) {
             return false;
         }
         i += 1;
@@ -121,7 +173,6 @@ fn columns_kept(edges: &[u64], reverse: &[u32], area: &[f64]) -> bool
     let first = edges[0];
     let tops = (17 <= first >> 56) & (edges[last] >> 56 <= 22);
     tops
-        & fields_kept(edges, first >> 45)
         & sevens_kept(edges, ONES >> (3 * resolution(first)))
         & rows_ascend(edges)
         & (rows_paired(reverse) & terms_finite(area))
@@ -135,5 +186,9 @@ pub(crate) fn none_bad(edges: &[u64], reverse: &[u32], area: &[f64]) -> bool
     if !columns_kept(edges, reverse, area) {
         return false;
     }
-    sides_kept(edges)
+    let target = resolution(edges[0]);
+    if !fields_kept(edges, target as u64) {
+        return false;
+    }
+    sides_kept(edges, target)
 }

@@ -4,10 +4,9 @@ use borrow.Author.Needs.{needs}
 use Prim.Native.Nat.{ℕ, _*_, _/_, _^_}
 use mathlib.Core.Path.{sym, _∙_, ap}
 use lib.ListN.{length}
-use Rattle.scope.specs.Lists.{at, passes}
+use Rattle.scope.specs.Lists.{passes}
 use Rattle.scope.specs.Table.{table}
-use Rattle.edge_table.specs.Straight.{fieldsKept, ones, sevensKept}
-use Rattle.edge_table.proofs.Gathered.{fields-resolution}
+use Rattle.edge_table.specs.Straight.{ones, sevensKept}
 use Rattle.edge_table.proofs.Columns.{columns-from}
 use Rattle.edge_table.proofs.straight.columns_kept.Statement.{statement}
 use Rattle.edge_table.proofs.straight.columns_kept.Tie as tie
@@ -23,9 +22,6 @@ mul-tops c = search needs
 
 shared-slice-read-tops : tie.Need-shared-slice-read-tops
 shared-slice-read-tops c = search needs
-
-fields-kept-requires : tie.Need-fields-kept-requires
-fields-kept-requires c κs = search needs
 
 resolution-requires : tie.Need-resolution-requires
 resolution-requires c κs = search needs
@@ -50,10 +46,9 @@ terms-finite-requires c κs = search needs
 
 returns : tie.Need-returns
 returns c = λ e.
-    let a = c .before .before .before .before .before .before .before .before .before .before .before .args in
+    let a = c .before .before .before .before .before .before .before .before .before .before .args in
     let es = a .edges .now in
     columns-from (table es (a .reverse .now) (a .area .now))
-    (λ g. ap (λ (r : ℕ). passes (fieldsKept r es) (length es)) (sym (fields-resolution (at es 0))) ∙ c .before .before .before .before .before .fields-kept .ensures g)
     (λ g. ap (λ (r : ℕ). passes (sevensKept (ones / 2 ^ (3 * r)) es) (length es)) (sym (c .before .before .before .before .resolution .ensures)) ∙ c .before .before .before .sevens-kept .ensures g)
     (c .before .before .rows-ascend .ensures) (c .before .rows-paired .ensures) (c .terms-finite .ensures) e
 
@@ -65,7 +60,6 @@ columns-kept-spec =
     shared-slice-read-first
     mul-tops
     shared-slice-read-tops
-    fields-kept-requires
     resolution-requires
     mul-sevens-kept
     shr-sevens-kept

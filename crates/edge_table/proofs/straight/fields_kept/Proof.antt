@@ -2,45 +2,59 @@
 -- Assumes nothing.
 use native.Mathlib.Omega.{arith}
 use borrow.Author.Needs.{needs}
-use Prim.Native.Nat.{_-_, _/_, _%_, _^_}
-use mathlib.Core.Path.{_≡_}
-use lib.ListN.{length}
+use Prim.Native.Nat.{ℕ, _-_, _*_, _^_}
+use mathlib.Core.Path.{refl, subst}
 use borrow.Author.Tests.{eqb-true}
-use Rattle.scope.specs.Lists.{at}
-use Rattle.edge_table.specs.Straight.{fieldsKept}
-use Rattle.edge_table.proofs.Gathered.{Showing, showing-start, showing-more, showing-done, fields-off}
+use Rattle.scope.proofs.Tests.{clash}
+use Rattle.edge_table.specs.Search.{RowsBelow}
+use Rattle.edge_table.proofs.Blocks.{Blocks, blocks-start, blocks-more, blocks-done}
 use Rattle.edge_table.proofs.straight.fields_kept.Statement.{statement}
 use Rattle.edge_table.proofs.straight.fields_kept.Tie as tie
 
 abbrev Inv-loop : tie.InvT-loop
-Inv-loop edges wanted off₀ i₀ off i = Showing (fieldsKept (wanted / 2 ^ 7 % 2 ^ 4) edges) (length edges) i (off / 2 ^ 7 % 2 ^ 4 ≡ 0)
+Inv-loop edges target end₀ block₀ end block = Blocks edges target end block
 
 abbrev μ-loop : tie.MeasureT-loop
-μ-loop edges wanted off₀ i₀ off i = length edges - i
+μ-loop edges target end₀ block₀ end block = 368 - block
+
+add-block : tie.Need-add-block Inv-loop μ-loop
+add-block c = search needs
 
 loop-holds : tie.Need-loop-holds Inv-loop μ-loop
-loop-holds c = showing-start
+loop-holds c = blocks-start (c .before .pre .1)
 
-mul-fields : tie.Need-mul-fields Inv-loop μ-loop
-mul-fields c = search needs
+mul-rows-below : tie.Need-mul-rows-below Inv-loop μ-loop
+mul-rows-below c = omega arith
 
-shared-slice-read-fields : tie.Need-shared-slice-read-fields Inv-loop μ-loop
-shared-slice-read-fields c = omega arith
+rows-below-requires : tie.Need-rows-below-requires Inv-loop μ-loop
+rows-below-requires c κs = c .before .before .before .pre .0
 
-add-off : tie.Need-add-off Inv-loop μ-loop
-add-off c = omega (arith, c .shared-slice-known .given (c .before .before .loop .i))
+returns : tie.Need-returns Inv-loop μ-loop
+returns c = λ e. absurd (clash e refl)
 
-add-i : tie.Need-add-i Inv-loop μ-loop
-add-i c = omega arith
+mul-rows-below-2 : tie.Need-mul-rows-below-2 Inv-loop μ-loop
+mul-rows-below-2 c = omega arith
+
+add-rows-below : tie.Need-add-rows-below Inv-loop μ-loop
+add-rows-below c = omega arith
+
+mul-rows-below-3 : tie.Need-mul-rows-below-3 Inv-loop μ-loop
+mul-rows-below-3 c = omega arith
+
+rows-below-requires-2 : tie.Need-rows-below-requires-2 Inv-loop μ-loop
+rows-below-requires-2 c κs = c .before .before .before .before .before .pre .0
+
+add-block-2 : tie.Need-add-block-2 Inv-loop μ-loop
+add-block-2 c = omega arith
 
 loop-less : tie.Need-loop-less Inv-loop μ-loop
 loop-less c = omega arith
 
 loop-again : tie.Need-loop-again Inv-loop μ-loop
-loop-again c = showing-more (c .before .before .loop .inv) (c .before .loop-test .taken) (λ e. fields-off (at (c .before .before .before .args .edges .now) (c .before .before .loop .i)) (c .before .before .before .args .wanted) (c .before .before .loop .off) e)
+loop-again c = blocks-more (c .before .before .before .before .loop .inv) (subst (λ (k : ℕ). RowsBelow (c .before .before .before .before .before .before .args .edges .now) (c .before .before .before .before .loop .block * 2 ^ 52) k) (c .before .if1 .left) (c .before .before .rows-below .ensures)) (c .rows-below2 .ensures)
 
-returns : tie.Need-returns Inv-loop μ-loop
-returns c = λ e. showing-done (c .before .loop .inv) (c .loop-test .left) (eqb-true _ _ e)
+returns-2 : tie.Need-returns-2 Inv-loop μ-loop
+returns-2 c = λ e. blocks-done (c .before .loop .inv) (eqb-true _ _ e)
 
 pub fields-kept-spec : {M : Type 1} → statement M
 fields-kept-spec =
@@ -48,11 +62,16 @@ fields-kept-spec =
     (tie.spec
     Inv-loop
     μ-loop
+    add-block
     loop-holds
-    mul-fields
-    shared-slice-read-fields
-    add-off
-    add-i
+    mul-rows-below
+    rows-below-requires
+    returns
+    mul-rows-below-2
+    add-rows-below
+    mul-rows-below-3
+    rows-below-requires-2
+    add-block-2
     loop-less
     loop-again
-    returns)
+    returns-2)

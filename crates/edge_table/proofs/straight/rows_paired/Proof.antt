@@ -1,39 +1,40 @@
 -- `edge_table::straight::rows_paired` meets its contract.
 -- Assumes nothing.
-use native.Mathlib.Omega.{arith}
 use borrow.Author.Needs.{needs}
-use Prim.Native.Nat.{_-_}
+use Prim.Native.Nat.{_*_, _/_}
+use mathlib.Core.Path.{sym, _∙_}
+use lib.Dec.{eqb}
 use lib.ListN.{length}
-use Rattle.scope.specs.Table.{paired}
-use Rattle.edge_table.proofs.Columns.{Passing, passing-start, passing-more, passing-done}
+use borrow.Author.Tests.{eqb-true}
+use Rattle.scope.proofs.Tests.{and-left, and-right}
+use Rattle.edge_table.proofs.Halves.{halves-paired}
 use Rattle.edge_table.proofs.straight.rows_paired.Statement.{statement}
 use Rattle.edge_table.proofs.straight.rows_paired.Tie as tie
 
-abbrev Inv-loop : tie.InvT-loop
-Inv-loop reverse kept₀ i₀ kept i = Passing (paired reverse) (length reverse) i kept
+mul-if1 : tie.Need-mul-if1
+mul-if1 c = search needs
 
-abbrev μ-loop : tie.MeasureT-loop
-μ-loop reverse kept₀ i₀ kept i = length reverse - i
+halves-cross-requires : tie.Need-halves-cross-requires
+halves-cross-requires c κs = search needs
 
-loop-holds : tie.Need-loop-holds Inv-loop μ-loop
-loop-holds c = passing-start
+returns : tie.Need-returns
+returns c =
+    let rs = c .before .before .before .args .reverse .now in
+    let even = eqb (length rs) (2 * (length rs / 2)) in
+    sym (halves-paired rs (length rs / 2) (eqb-true _ _ (and-left even _ (c .if1 .taken))) (sym (c .before .halves-cross .ensures) ∙ and-right even _ (c .if1 .taken)))
 
-row-paired-requires : tie.Need-row-paired-requires Inv-loop μ-loop
-row-paired-requires c κs = search needs
+each-paired-requires : tie.Need-each-paired-requires
+each-paired-requires c κs = search needs
 
-add-i : tie.Need-add-i Inv-loop μ-loop
-add-i c = omega arith
-
-loop-less : tie.Need-loop-less Inv-loop μ-loop
-loop-less c = omega arith
-
-loop-again : tie.Need-loop-again Inv-loop μ-loop
-loop-again c = passing-more (c .before .before .loop .inv) (c .before .loop-test .taken) (c .row-paired .ensures)
-
-returns : tie.Need-returns Inv-loop μ-loop
-returns c = passing-done (c .before .loop .inv) (c .loop-test .left)
+returns-2 : tie.Need-returns-2
+returns-2 c = c .each-paired .ensures
 
 pub rows-paired-spec : {M : Type 1} → statement M
 rows-paired-spec =
     tie.close
-    (tie.spec Inv-loop μ-loop loop-holds row-paired-requires add-i loop-less loop-again returns)
+    (tie.spec
+    mul-if1
+    halves-cross-requires
+    returns
+    each-paired-requires
+    returns-2)

@@ -2,4 +2,5 @@
 pub mod Totals
 pub mod Sweeps
 pub mod Counted
+pub mod Ahead
 pub mod Whole

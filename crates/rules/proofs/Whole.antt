@@ -1,4 +1,4 @@
--- The rules one by one, each over the slices that it reads and the rows' one by counting, are the rules over the whole memory.
+-- The rules one by one, each over the slices that it reads and the rows' one by counting and the links by those ahead, are the rules over the whole memory.
 -- Assumes nothing.
 use Prim.Native.Nat.{ℕ, _≤_}
 use mathlib.Core.Path.{_≡_, refl, sym, _∙_, ap}
@@ -16,8 +16,9 @@ use Rattle.scope.specs.CellLists.{listVerdict}
 use Rattle.scope.specs.Memory.{memory}
 use Rattle.scope.specs.Rules.{rowKept, linksKept, slotKept, clearedAt, parentKept, ranksKept, rulesKept}
 use Rattle.scope.proofs.Tests.{and-right, and-false}
-use Rattle.rules.specs.Slices.{rows, pool, forest, setCount}
+use Rattle.rules.specs.Slices.{rows, pool, forest, setCount, slotAhead}
 use Rattle.rules.proofs.Counted.{back-from, rows-counted}
+use Rattle.rules.proofs.Ahead.{ahead-all}
 
 pub held-fits : (mode held n : ℕ) → not (leb mode 1 && leb held n) ≡ false → held ≤ n
 held-fits mode held n e = leb-true held n (and-right (leb mode 1) _ (not-false (leb mode 1 && leb held n) e))
@@ -54,11 +55,12 @@ module _ (edges reverse : List ℕ) (area : List Float) (head cells parent rank 
   pub counted : not fits ≡ false → {target p q : ℕ} {a d f g h k : Bool} → target ≡ resolutionOf (at edges 0)
       → a ≡ isAccepted (listVerdict mode target held (take held cells))
       → p ≡ setCount rowSlot → q ≡ setCount slotRow
-      → d ≡ passes (slotKept (table edges reverse []) (pool held cells slotRow slotCell prev next rowSlot)) (length slotRow)
+      → d ≡ passes (slotAhead (table edges reverse []) (pool held cells slotRow slotCell prev next rowSlot)) (length slotRow)
       → f ≡ passes (clearedAt rowMark) (length rowMark) → g ≡ passes (clearedAt cellMark) (length cellMark)
       → h ≡ passes (parentKept (forest held parent rank)) held → k ≡ ranksKept parent rank held
       → (a && eqb p q && d && (f && g) && h && k) ≡ whole
-  counted e {target} {p} {q} {a} {d} {f} {g} {h} {k} t ea ep eq ed ef eg eh ek =
+  counted e {target} {p} {q} {a} {d} {f} {g} {h} {k} t ea ep eq en ef eg eh ek =
+      let ed = en ∙ ahead-all (table edges reverse []) (pool held cells slotRow slotCell prev next rowSlot) in
       let kept : Bool = passes (rowKept (rows slotRow rowSlot)) (length rowSlot) in
       let count : (d ≡ true → eqb p q ≡ kept) = λ yes. rw (ep, eq) (rows-counted (rows slotRow rowSlot) (back-from (table edges reverse []) (pool held cells slotRow slotCell prev next rowSlot) (sym ed ∙ yes))) in
       ap (λ (z : Bool). z && (f && g) && h && k) (stands-for a (eqb p q) kept d count) ∙ one-by-one e t ea refl ed ef eg eh ek

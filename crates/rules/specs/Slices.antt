@@ -1,12 +1,15 @@
--- Memories of which a rule reads some slices only; the others are left empty. And how many numbers of a slice are not 0.
+-- Memories of which a rule reads some slices only; the others are left empty. How many numbers of a slice are not 0. And a slot's rules
+-- with the link ahead alone.
 -- Assumes nothing.
 use Prim.Native.Nat.{ℕ}
-use mathlib.Core.Bool.{Bool, not}
+use mathlib.Core.Bool.{Bool, _&&_, not, cond}
 use mathlib.Core.List.{List, [], _∷_}
 use lib.Dec.{eqb}
 use lib.ListN.{length}
 use Rattle.scope.specs.Lists.{at, below}
-use Rattle.scope.specs.Memory.{Memory, memory}
+use Rattle.scope.specs.Table.{Table}
+use Rattle.scope.specs.Memory.{Memory, memory, isUsed}
+use Rattle.scope.specs.Rules.{pointsBack, cellKept, linkUsed, reverseFree, freeKept}
 
 abbrev pub rows : List ℕ → List ℕ → Memory
 rows slotRow rowSlot = memory [] [] [] [] [] slotRow [] [] [] rowSlot []
@@ -25,3 +28,12 @@ isSet l i = not (eqb (at l i) 0)
 
 abbrev pub setCount : List ℕ → ℕ
 setCount l = length (below (isSet l) (length l))
+
+abbrev pub aheadKept : Memory → ℕ → Bool
+aheadKept m s = linkUsed m (at (m .next) s) && eqb (at (m .prev) (at (m .next) s)) s
+
+abbrev pub usedAhead : Table → Memory → ℕ → Bool
+usedAhead t m s = pointsBack t m s && cellKept t m s && aheadKept m s && reverseFree t m s
+
+unfoldable pub slotAhead : Table → Memory → ℕ → Bool
+slotAhead t m s = cond (isUsed m s) (usedAhead t m s) (freeKept m s)

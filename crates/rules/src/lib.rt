@@ -11,8 +11,8 @@ ghost use Rattle.scope.specs.Answers.{isAccepted};
 ghost use Rattle.scope.specs.Table.{table};
 ghost use Rattle.scope.specs.CellLists.{listVerdict};
 ghost use Rattle.scope.specs.Memory.{memory};
-ghost use Rattle.scope.specs.Rules.{ownedBy, linkUsed, linksKept, freeKept, usedKept, slotKept, clearedAt, isRoot, parentKept, ranksKept, rulesKept};
-ghost use Rattle.rules.specs.Slices.{links, forest, pool, setCount};
+ghost use Rattle.scope.specs.Rules.{ownedBy, linkUsed, freeKept, clearedAt, isRoot, parentKept, ranksKept, rulesKept};
+ghost use Rattle.rules.specs.Slices.{links, forest, pool, setCount, aheadKept, usedAhead, slotAhead};
 use index::lies_under;
 use index::owner;
 use index::resolution;
@@ -64,16 +64,13 @@ fn link_used(slot_row: &[u32], slot: usize) -> bool
     (slot < slot_row.len()) & (at32(slot_row, slot) != 0)
 }
 
-// Previous and next are used and inverse to each other.
-fn links_kept(slot_row: &[u32], prev: &[u32], next: &[u32], slot: usize) -> bool
-    ensures { λ b. ⌜ b ≡ linksKept (links (now («slot_row» .entry)) [] (now (prev .entry)) (now (next .entry))) slot ⌝ }
+// Next is used, and its previous is this slot. Where this is so of every used slot, next goes around among them, and each slot's previous
+// is the one that leads to it.
+fn link_ahead(slot_row: &[u32], prev: &[u32], next: &[u32], slot: usize) -> bool
+    ensures { λ b. ⌜ b ≡ aheadKept (links (now («slot_row» .entry)) [] (now (prev .entry)) (now (next .entry))) slot ⌝ }
 {
-    let before = at32(prev, slot);
     let after = at32(next, slot);
-    link_used(slot_row, before)
-        & link_used(slot_row, after)
-        & (at32(next, before) == slot)
-        & (at32(prev, after) == slot)
+    link_used(slot_row, after) & (at32(prev, after) == slot)
 }
 
 // Free slots are cleared.
@@ -84,7 +81,7 @@ fn free_kept(slot_cell: &[u32], prev: &[u32], next: &[u32], slot: usize) -> bool
 }
 
 // A used slot has its row in range, that row points back to it, its cell number is held and the row's owner is that cell
-// or lies under it, its links are kept, and its row's reverse is not held.
+// or lies under it, its link ahead is kept, and its row's reverse is not held.
 fn used_kept(
     edges: &[u64],
     reverse: &[u32],
@@ -98,7 +95,7 @@ fn used_kept(
     slot: usize,
 ) -> bool
     requires { ⌜ (slot < length (now «slot_row»)) × (0 < at (now «slot_row») slot) ⌝ }
-    ensures { λ b. ⌜ b ≡ usedKept (table (now (edges .entry)) (now (reverse .entry)) []) (pool held (now (cells .entry)) (now («slot_row» .entry)) (now («slot_cell» .entry)) (now (prev .entry)) (now (next .entry)) (now («row_slot» .entry))) slot ⌝ }
+    ensures { λ b. ⌜ b ≡ usedAhead (table (now (edges .entry)) (now (reverse .entry)) []) (pool held (now (cells .entry)) (now («slot_row» .entry)) (now («slot_cell» .entry)) (now (prev .entry)) (now (next .entry)) (now («row_slot» .entry))) slot ⌝ }
 {
     let number = at32(slot_row, slot);
     let row = number - 1;
@@ -107,7 +104,7 @@ fn used_kept(
     (number <= edges.len())
         & (at32(row_slot, row) == slot + 1)
         & ((place < held) & owned_by(at64(edges, row), at64(cells, place)))
-        & links_kept(slot_row, prev, next, slot)
+        & link_ahead(slot_row, prev, next, slot)
         & (at32(row_slot, back) == 0)
 }
 
@@ -124,7 +121,7 @@ fn slot_kept(
     slot: usize,
 ) -> bool
     requires { ⌜ slot < length (now «slot_row») ⌝ }
-    ensures { λ b. ⌜ b ≡ slotKept (table (now (edges .entry)) (now (reverse .entry)) []) (pool held (now (cells .entry)) (now («slot_row» .entry)) (now («slot_cell» .entry)) (now (prev .entry)) (now (next .entry)) (now («row_slot» .entry))) slot ⌝ }
+    ensures { λ b. ⌜ b ≡ slotAhead (table (now (edges .entry)) (now (reverse .entry)) []) (pool held (now (cells .entry)) (now («slot_row» .entry)) (now («slot_cell» .entry)) (now (prev .entry)) (now (next .entry)) (now («row_slot» .entry))) slot ⌝ }
 {
     if at32(slot_row, slot) == 0 {
         return free_kept(slot_cell, prev, next, slot);
@@ -154,7 +151,7 @@ fn slots_kept(
     row_slot: &[u32],
     held: usize,
 ) -> bool
-    ensures { λ b. ⌜ b ≡ passes (slotKept (table (now (edges .entry)) (now (reverse .entry)) []) (pool held (now (cells .entry)) (now («slot_row» .entry)) (now («slot_cell» .entry)) (now (prev .entry)) (now (next .entry)) (now («row_slot» .entry)))) (length (now («slot_row» .entry))) ⌝ }
+    ensures { λ b. ⌜ b ≡ passes (slotAhead (table (now (edges .entry)) (now (reverse .entry)) []) (pool held (now (cells .entry)) (now («slot_row» .entry)) (now («slot_cell» .entry)) (now (prev .entry)) (now (next .entry)) (now («row_slot» .entry)))) (length (now («slot_row» .entry))) ⌝ }
 {
     let mut slot: usize = 0;
     while slot < slot_row.len() {

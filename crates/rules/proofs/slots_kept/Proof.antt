@@ -4,16 +4,15 @@ use native.Mathlib.Omega.{arith}
 use mathlib.Core.List.{[]}
 use Prim.Native.Nat.{_-_}
 use lib.ListN.{length}
-use Rattle.scope.specs.Rules.{slotKept}
 use Rattle.scope.specs.Table.{table}
 use Rattle.scope.proofs.Scan.{Going, going-start, going-more, going-false, going-true}
 use Rattle.scope.proofs.Tests.{fails, holds}
-use Rattle.rules.specs.Slices.{pool}
+use Rattle.rules.specs.Slices.{pool, slotAhead}
 use Rattle.rules.proofs.slots_kept.Statement.{statement}
 use Rattle.rules.proofs.slots_kept.Tie as tie
 
 abbrev Inv-loop : tie.InvT-loop
-Inv-loop edges reverse cells slot-row slot-cell prev next row-slot held slot₀ slot = Going (slotKept (table edges reverse []) (pool held cells slot-row slot-cell prev next row-slot)) (length slot-row) slot
+Inv-loop edges reverse cells slot-row slot-cell prev next row-slot held slot₀ slot = Going (slotAhead (table edges reverse []) (pool held cells slot-row slot-cell prev next row-slot)) (length slot-row) slot
 
 abbrev μ-loop : tie.MeasureT-loop
 μ-loop edges reverse cells slot-row slot-cell prev next row-slot held slot₀ slot = length slot-row - slot

@@ -1,7 +1,6 @@
 -- `rules::used_kept` meets its contract.
 -- Assumes nothing.
 use borrow.Author.Needs.{needs}
-use Rattle.scope.specs.Rules.{linksKept}
 use Rattle.rules.proofs.Totals.{not-not}
 use Rattle.rules.proofs.used_kept.Statement.{statement}
 use Rattle.rules.proofs.used_kept.Tie as tie
@@ -33,18 +32,17 @@ at64-requires-2 c κs = search needs
 owned-by-requires : tie.Need-owned-by-requires
 owned-by-requires c κs = search needs
 
-links-kept-requires : tie.Need-links-kept-requires
-links-kept-requires c κs = search needs
+link-ahead-requires : tie.Need-link-ahead-requires
+link-ahead-requires c κs = search needs
 
 at32-requires-5 : tie.Need-at32-requires-5
 at32-requires-5 c κs = search needs
 
 returns : tie.Need-returns
-unfolding linksKept
 returns c =
     rw (
       c .at325 .ensures .0,
-      c .before .links-kept .ensures,
+      c .before .link-ahead .ensures,
       c .before .before .owned-by .ensures,
       c .before .before .before .at642 .ensures,
       c .before .before .before .before .at64 .ensures,
@@ -68,6 +66,6 @@ used-kept-spec =
     at64-requires
     at64-requires-2
     owned-by-requires
-    links-kept-requires
+    link-ahead-requires
     at32-requires-5
     returns)

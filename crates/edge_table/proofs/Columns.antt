@@ -25,7 +25,7 @@ use Rattle.scope.proofs.Tables.{Ascending, ascending}
 use Rattle.scope.proofs.Edges.{validEdge-is}
 use Rattle.index.proofs.Digits.{digits-fit}
 use Rattle.index.proofs.Prefix.{pentagon-at-once}
-use Rattle.edge_table.specs.Straight.{fieldsKept, ones, sevens, sevensKept, sideKept, finiteAt, SidesAsk, Columns, NoneBad}
+use Rattle.edge_table.specs.Straight.{fieldsKept, ones, sevens, sevensKept, EdgesKept, sideKept, finiteAt, SidesAsk, Columns, NoneBad}
 
 -- ---- the loop
 
@@ -94,17 +94,17 @@ module _ (es : List ℕ) (O : Ascending es) where
 
 -- ---- the whole table
 
-pub columns-from : (t : Table) {d o p f : Bool} → (d ≡ true → passes (sevensKept (ones / 2 ^ (3 * targetOf t)) (t .edges)) (rowCount t) ≡ true)
-    → (o ≡ true → passes (ascends (t .edges)) (rowCount t) ≡ true) → p ≡ passes (paired (t .reverse)) (length (t .reverse)) → f ≡ passes (finiteAt (t .area)) (length (t .area))
-    → (leb 17 (top (t .edges) 0) && leb (top (t .edges) (rowCount t - 1)) 22 && d && o && (p && f)) ≡ true → Columns t
-columns-from t {d} {o} {p} {f} ed eo ep ef e =
+pub columns-from : (t : Table) {f p k : Bool} → f ≡ passes (finiteAt (t .area)) (length (t .area)) → p ≡ passes (paired (t .reverse)) (length (t .reverse))
+    → (k ≡ true → EdgesKept (ones / 2 ^ (3 * targetOf t)) (t .edges))
+    → (leb 17 (top (t .edges) 0) && leb (top (t .edges) (rowCount t - 1)) 22 && (f && p) && k) ≡ true → Columns t
+columns-from t {f} {p} {k} ef ep ek e =
     record {
       first = leb-true 17 (top (t .edges) 0) (and-left low high tops);
       last = leb-true (top (t .edges) (rowCount t - 1)) 22 (and-right low high tops);
-      digits = ed (and-right ends d with-digits);
-      order = eo (and-right (ends && d) o with-order);
-      pairs = sym ep ∙ and-left p f (and-right (ends && d && o) (p && f) e);
-      finite = sym ef ∙ and-right p f (and-right (ends && d && o) (p && f) e);
+      digits = kept .digits;
+      order = kept .order;
+      pairs = sym ep ∙ and-right f p both;
+      finite = sym ef ∙ and-left f p both;
     }
   where
     low : Bool
@@ -113,17 +113,14 @@ columns-from t {d} {o} {p} {f} ed eo ep ef e =
     high : Bool
     high = leb (top (t .edges) (rowCount t - 1)) 22
 
-    ends : Bool
-    ends = low && high
+    tops : (low && high) ≡ true
+    tops = and-left (low && high) (f && p) (and-left (low && high && (f && p)) k e)
 
-    with-order : (ends && d && o) ≡ true
-    with-order = and-left (ends && d && o) (p && f) e
+    both : (f && p) ≡ true
+    both = and-right (low && high) (f && p) (and-left (low && high && (f && p)) k e)
 
-    with-digits : (ends && d) ≡ true
-    with-digits = and-left (ends && d) o with-order
-
-    tops : ends ≡ true
-    tops = and-left ends d with-digits
+    kept : EdgesKept (ones / 2 ^ (3 * targetOf t)) (t .edges)
+    kept = ek (and-right (low && high && (f && p)) k e)
 
 module _ (t : Table) (C : Columns t) (kept : passes (fieldsKept (targetOf t) (t .edges)) (rowCount t) ≡ true) (sides : passes (sideKept (t .edges)) (rowCount t) ≡ true) where
   abbrev es : List ℕ

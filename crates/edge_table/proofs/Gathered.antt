@@ -1,10 +1,10 @@
 -- Passes that gather bits: what the bits tell at the end, they tell of every row.
---     Showing, showing-start, -more, -done     the loop: where what is gathered is clear, the test holds at every row so far
---     sevens-off      the digits 7
+--     Showing, showing-start, -more, -done     the loop, from row 1 on: where what is gathered is clear, the test holds at every row so far
+--     sevens-start, sevens-more                the digits 7
 --     rising-start, rising-more, rising-done   neighbours in order, by the top bit
 -- Assumes nothing.
 use Prim.Native.Nat.{ℕ, _+_, _-_, _^_, _<_, _≤_}
-use mathlib.Core.Path.{_≡_, _∙_, ap}
+use mathlib.Core.Path.{_≡_, sym, _∙_, ap}
 use mathlib.Core.Bool.{Bool, true, _&&_}
 use mathlib.Core.List.{List}
 use mathlib.Core.Logic.{⊎-elim}
@@ -25,8 +25,11 @@ pub record Showing (ok : ℕ → Bool) (n i : ℕ) (clear : Type 0) : Type 0 whe
   pub within : i ≤ n
   pub so-far : clear → (k : ℕ) → k < i → ok k ≡ true
 
-pub showing-start : {ok : ℕ → Bool} {n : ℕ} {clear : Type 0} → Showing ok n 0 clear
-showing-start = record { within = omega arith; so-far = λ _ k h. absurd (omega arith) }
+pub showing-start : {ok : ℕ → Bool} {n : ℕ} {clear : Type 0} → 0 < n → (clear → ok 0 ≡ true) → Showing ok n 1 clear
+showing-start {ok} h first = record {
+  within = omega arith;
+  so-far = λ c k l. let z : k ≡ 0 = omega arith in ap ok z ∙ first c;
+}
 
 module _ {ok : ℕ → Bool} {n i : ℕ} {clear : Type 0} (S : Showing ok n i clear) where
   pub showing-more : i < n → {still : Type 0} → (still → clear × (ok i ≡ true)) → Showing ok n (i + 1) still
@@ -56,22 +59,22 @@ xor-none a b e =
     let r = and-le-r a b in
     omega arith
 
-pub sevens-off : (off found wanted : ℕ) → bitOr off (bitXor found wanted) ≡ 0 → (off ≡ 0) × (eqb found wanted ≡ true)
-sevens-off off found wanted e =
-    let both = or-none off (bitXor found wanted) e in
-    (both .0, eq-eqb _ _ (xor-none found wanted (both .1)))
+pub sevens-start : (found wanted : ℕ) {off : ℕ} → off ≡ bitXor found wanted → off ≡ 0 → eqb found wanted ≡ true
+sevens-start found wanted e z = eq-eqb _ _ (xor-none found wanted (sym e ∙ z))
+
+pub sevens-more : (off found wanted : ℕ) {more : ℕ} → more ≡ bitXor found wanted → bitOr off more ≡ 0 → (off ≡ 0) × (eqb found wanted ≡ true)
+sevens-more off found wanted {more} e z =
+    let both = or-none off more z in
+    (both .0, sevens-start found wanted e (both .1))
 
 -- ---- neighbours in order
 
 abbrev pub rises : List ℕ → ℕ → Bool
 rises es i = ascends es i && ltb (at es i) (2 ^ 63)
 
-pub rising-start : (es : List ℕ) → 0 < length es → {rising : ℕ} → (2 ^ 63 ≤ rising → at es 0 < 2 ^ 63) → Showing (rises es) (length es) 1 (2 ^ 63 ≤ rising)
+pub rising-start : (es : List ℕ) → at es 0 < 2 ^ 63 → rises es 0 ≡ true
 unfolding ascends
-rising-start es h low = record {
-  within = omega arith;
-  so-far = λ c k l. let z : k ≡ 0 = omega arith in rw z (lt-ltb (at es 0) (2 ^ 63) (low c));
-}
+rising-start es h = lt-ltb (at es 0) (2 ^ 63) h
 
 above : (es : List ℕ) (i : ℕ) → 0 < i → at es (i - 1) < at es i → ascends es i ≡ true
 unfolding ascends

@@ -26,6 +26,11 @@ sevens x = bitAnd (bitAnd (bitAnd x (x / 2)) (x / 4)) ones
 abbrev pub sevensKept : ℕ → List ℕ → ℕ → Bool
 sevensKept wanted es i = eqb (sevens (at es i)) wanted
 
+-- What the pass over the edges has shown.
+pub record EdgesKept (wanted : ℕ) (es : List ℕ) : Type 0 where
+  pub digits : passes (sevensKept wanted es) (length es) ≡ true
+  pub order : passes (ascends es) (length es) ≡ true
+
 -- Not edge 1 of a pentagon, by the top byte.
 abbrev pub sideKept : List ℕ → ℕ → Bool
 sideKept es i = not (isPentagon (at es i) && eqb (at es i / 2 ^ 56) 17)

@@ -9,28 +9,22 @@ use slices::at32;
 ghost use mathlib.Core.Path.{_≡_};
 ghost use mathlib.Core.Bool.{true, _&&_};
 ghost use Prim.Native.Nat.{_-_, _*_, _/_, _^_, _<_, _≤_};
+ghost use lib.Bits.{bitXor};
 ghost use lib.Dec.{eqb};
 ghost use lib.ListN.{length};
 ghost use Rattle.scope.specs.Lists.{passes};
 ghost use Rattle.scope.specs.Cells.{resolutionOf, isPentagon};
 ghost use Rattle.scope.specs.Table.{table, ascends, paired};
-ghost use Rattle.edge_table.specs.Straight.{fieldsKept, sevensKept, sideKept, finiteAt, crosses, SidesAsk, Columns, NoneBad};
+ghost use Rattle.edge_table.specs.Straight.{fieldsKept, sevens, EdgesKept, sideKept, finiteAt, crosses, SidesAsk, Columns, NoneBad};
 
 // A one at the lowest bit of each of the fifteen digits.
 const ONES: u64 = 0o111_111_111_111_111;
 
-// The digits 7 of every edge are the wanted ones: a digit is 7 where all its three bits are set.
-fn sevens_kept(edges: &[u64], wanted: u64) -> bool
-    ensures { λ b. ⌜ (b ≡ true → passes (sevensKept wanted (now (edges .entry))) (length (now (edges .entry))) ≡ true) ⌝ }
+// How the digits 7 of an edge differ from the wanted ones: a digit is 7 where all its three bits are set.
+fn sevens_off(x: u64, wanted: u64) -> u64
+    ensures { λ r. ⌜ r ≡ bitXor (sevens x) wanted ⌝ }
 {
-    let mut off: u64 = 0;
-    let mut i: usize = 0;
-    while i < edges.len() {
-        let x = edges[i];
-        off = off | ((x & (x >> 1) & (x >> 2) & ONES) ^ wanted);
-        i += 1;
-    }
-    off == 0
+    (x & (x >> 1) & (x >> 2) & ONES) ^ wanted
 }
 
 // The difference modulo 2^64: of numbers below 2^63 it has the top bit where the first is the lower one.
@@ -43,19 +37,23 @@ fn difference(low: u64, high: u64) -> u64
     low + (u64::MAX - high) + 1
 }
 
-// The edges ascend, and all are below 2^63: the top bit stays where each difference has it, and no edge.
-fn rows_ascend(edges: &[u64]) -> bool
+// The digits 7 of every edge are the wanted ones, and the edges ascend, all below 2^63: the top bit stays where each difference has it,
+// and no edge. What is told is gathered as bits, for a pass that only gathers takes two rows at a time.
+fn edges_kept(edges: &[u64], wanted: u64) -> bool
     requires { ⌜ 0 < length (now edges) ⌝ }
-    ensures { λ b. ⌜ (b ≡ true → passes (ascends (now (edges .entry))) (length (now (edges .entry))) ≡ true) ⌝ }
+    ensures { λ b. ⌜ (b ≡ true → EdgesKept wanted (now (edges .entry))) ⌝ }
 {
-    let mut rising = u64::MAX - edges[0];
+    let first = edges[0];
+    let mut off = sevens_off(first, wanted);
+    let mut rising = u64::MAX - first;
     let mut i: usize = 1;
     while i < edges.len() {
         let x = edges[i];
+        off = off | sevens_off(x, wanted);
         rising = rising & difference(edges[i - 1], x) & (u64::MAX - x);
         i += 1;
     }
-    0x8000_0000_0000_0000 <= rising
+    (off == 0) & (0x8000_0000_0000_0000 <= rising)
 }
 
 fn terms_finite(area: &[f64]) -> bool
@@ -173,9 +171,8 @@ fn columns_kept(edges: &[u64], reverse: &[u32], area: &[f64]) -> bool
     let first = edges[0];
     let tops = (17 <= first >> 56) & (edges[last] >> 56 <= 22);
     tops
-        & sevens_kept(edges, ONES >> (3 * resolution(first)))
-        & rows_ascend(edges)
-        & (rows_paired(reverse) & terms_finite(area))
+        & (terms_finite(area) & rows_paired(reverse))
+        & edges_kept(edges, ONES >> (3 * resolution(first)))
 }
 
 // No row breaks a rule. Where a pass fails, nothing is said.

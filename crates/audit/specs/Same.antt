@@ -9,7 +9,7 @@ use lib.Ieee.{Float, binary64, toBits, nan}
 use lib.ListN.{length, getD}
 use Rattle.scope.specs.declared.ReadOut.{ReadOut}
 use Rattle.scope.specs.Lists.{at, passes}
-use Rattle.scope.specs.Answers.{kindOf, polygonsOf, ringsOf}
+use Rattle.scope.specs.Answers.{kindOf, verdictOf, polygonsOf, ringsOf, isAccepted}
 use Rattle.scope.specs.Bytes.{areaBits}
 use Rattle.scope.specs.Memory.{Output}
 
@@ -36,10 +36,12 @@ sameOutput o p =
     && sameAreas (o .area) (p .area)
     && sameNumbers (o .edges) (p .edges)
 
--- the same kind, counts and first outer area
+-- Both are carried out, and have the same kind, counts and first outer area. A refusal shows no outline, so it is the same as nothing.
 unfoldable pub sameAnswer : ReadOut → ReadOut → Bool
 sameAnswer r s =
-    eqb (kindOf r) (kindOf s)
+    isAccepted (verdictOf r)
+    && isAccepted (verdictOf s)
+    && eqb (kindOf r) (kindOf s)
     && eqb (polygonsOf r) (polygonsOf s)
     && eqb (ringsOf r) (ringsOf s)
     && eqb (areaBits r) (areaBits s)

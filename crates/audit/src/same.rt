@@ -1,4 +1,5 @@
 // Two outlines compared, answer with answer and output with output.
+use answers::is_done;
 use codec::bits_of;
 use scope::ReadOut;
 use wire::numbers::summarise;
@@ -80,11 +81,16 @@ pub fn same_output(
         & same_numbers(edges, other_edges)
 }
 
-// Two answers are of one kind, with the same counts and first outer area.
+// Two answers are carried out, of one kind, with the same counts and first outer area.
 pub fn same_answer(answer: ReadOut, other: ReadOut) -> bool
     ensures { λ r. ⌜ r ≡ sameAnswer answer other ⌝ }
 {
     let a = summarise(answer);
     let b = summarise(other);
-    (a.kind == b.kind) & (a.polygons == b.polygons) & (a.rings == b.rings) & (a.area == b.area)
+    is_done(answer)
+        & is_done(other)
+        & (a.kind == b.kind)
+        & (a.polygons == b.polygons)
+        & (a.rings == b.rings)
+        & (a.area == b.area)
 }

@@ -3,3 +3,4 @@ pub mod Tally
 pub mod Feeding
 pub mod FromOpened
 pub mod Equal
+pub mod Determined

@@ -1,7 +1,5 @@
 -- Passes over a column with no early end, and what they tell of the whole table.
 --     Passing, passing-start, -more, -done     the loop: `kept` says that the test holds at every row so far
---     side-not, bits-past   whether an edge is edge 1 of a pentagon
---     sides-end         past the first edge whose top byte is above 17 no edge is edge 1
 --     columns-from      the passes over the columns, one by one
 --     none-bad          where every column passes, every row does
 -- Assumes nothing.
@@ -20,12 +18,11 @@ use Rattle.scope.specs.Lists.{at, all, passes}
 use Rattle.scope.specs.Cells.{resolutionOf, baseCell, digitFits, isPentagon, validEdge}
 use Rattle.scope.specs.Table.{Table, rowCount, targetOf, hasTarget, isFinite, ascends, paired, rowGood}
 use Rattle.scope.proofs.Tests.{either, same, and-left, and-right, and-both, and-false, le-or-lt}
-use Rattle.scope.proofs.Scan.{passes-at, passes-all, Going}
+use Rattle.scope.proofs.Scan.{passes-at, passes-all}
 use Rattle.scope.proofs.Tables.{Ascending, ascending}
 use Rattle.scope.proofs.Edges.{validEdge-is}
 use Rattle.index.proofs.Digits.{digits-fit}
-use Rattle.index.proofs.Prefix.{pentagon-at-once}
-use Rattle.edge_table.specs.Straight.{fieldsKept, ones, sevens, sevensKept, EdgesKept, sideKept, finiteAt, SidesAsk, Columns, NoneBad}
+use Rattle.edge_table.specs.Straight.{fieldsKept, ones, sevens, sevensKept, EdgesKept, sideKept, finiteAt, Columns, NoneBad}
 
 -- ---- the loop
 
@@ -61,17 +58,7 @@ module _ {ok : ℕ → Bool} {n i : ℕ} {kept : Bool} (P : Passing ok n i kept)
 digits-at : (target x : ℕ) → resolutionOf x ≡ target → eqb (sevens x) (ones / 2 ^ (3 * target)) ≡ all (digitFits x) 15
 digits-at target x e = ap (λ (r : ℕ). eqb (sevens x) (ones / 2 ^ (3 * r))) (sym e) ∙ digits-fit x
 
--- ---- edge 1 of a pentagon
-
--- few edges have only zeros up to their resolution
-pub side-not : (x below : ℕ) → below ≡ 3 * (15 - resolutionOf x) → (x % 2 ^ 45 / 2 ^ below ≡ 0 → ⊥) → (isPentagon x && eqb (x / 2 ^ 56) 17) ≡ false
-side-not x below e n = rw (pentagon-at-once x, ne-eqb (x % 2 ^ 45 / 2 ^ (3 * (15 - resolutionOf x))) 0 (λ z. n (ap (λ (k : ℕ). x % 2 ^ 45 / 2 ^ k) e ∙ z)))
-
--- the bits past the target's resolution
-pub bits-past : (es : List ℕ) (target : ℕ) → SidesAsk es target → (i : ℕ) → i < length es → 3 * (15 - target) ≡ 3 * (15 - resolutionOf (at es i))
-bits-past es target A i h =
-    let e = eqb-true (resolutionOf (at es i)) target (and-left _ (leb (baseCell (at es i)) 121) (passes-at (fieldsKept target es) (length es) (A .fields) i h)) in
-    ap (λ (r : ℕ). 3 * (15 - r)) (sym e)
+-- ---- top bytes
 
 abbrev top : List ℕ → ℕ → ℕ
 top es i = at es i / 2 ^ 56
@@ -82,15 +69,6 @@ module _ (es : List ℕ) (O : Ascending es) where
       (λ (e : i ≡ j). rw e (omega arith))
       (λ (g : i < j). let o = O .order i j g l in omega arith)
       (eq-or-lt-of-le h)
-
-  pub sides-end : (i : ℕ) → Going (sideKept es) (length es) i → i < length es → 17 < top es i → passes (sideKept es) (length es) ≡ true
-  sides-end i G h above = passes-all (sideKept es) (length es) (λ k l. ⊎-elim
-      (λ (g : i ≤ k).
-      let r = tops-rise i k g l in
-      let f : eqb (top es k) 17 ≡ false = ne-eqb (top es k) 17 (λ e. omega arith) in
-      ap not (ap (λ (b : Bool). isPentagon (at es k) && b) f ∙ and-false (isPentagon (at es k))))
-      (λ (g : k < i). G .passed k g)
-      (le-or-lt i k))
 
 -- ---- the whole table
 

@@ -4,6 +4,7 @@ pub mod Noting
 pub mod Gathered
 pub mod Halves
 pub mod Blocks
+pub mod Sides
 pub mod Columns
 pub mod Search
 pub mod Turns

@@ -42,7 +42,11 @@ finiteAt terms i = isFinite (getD terms i nan)
 abbrev pub crosses : ℕ → List ℕ → ℕ → Bool
 crosses half rs i = leb half (at rs i) && ltb (at rs i) (length rs) && eqb (at rs (at rs i)) i
 
--- Edges in order, with the target's resolution.
+-- No row with these fields above its digits is edge 1 of a pentagon.
+pub record NoSide (es : List ℕ) (fields : ℕ) : Type 0 where
+  pub none : (k : ℕ) → k < length es → at es k / 2 ^ 45 ≡ fields → sideKept es k ≡ true
+
+-- Edges in order, with the target's resolution and a base cell.
 pub record SidesAsk (es : List ℕ) (target : ℕ) : Type 0 where
   pub small : target < 16
   pub order : passes (ascends es) (length es) ≡ true

@@ -7,15 +7,13 @@ use index::is_pentagon;
 use index::resolution;
 use slices::at32;
 ghost use mathlib.Core.Path.{_≡_};
-ghost use mathlib.Core.Bool.{true, _&&_};
-ghost use Prim.Native.Nat.{_-_, _*_, _/_, _^_, _<_, _≤_};
+ghost use mathlib.Core.Bool.{true, false};
+ghost use Prim.Native.Nat.{_^_, _<_, _≤_};
 ghost use lib.Bits.{bitXor};
-ghost use lib.Dec.{eqb};
 ghost use lib.ListN.{length};
 ghost use Rattle.scope.specs.Lists.{passes};
-ghost use Rattle.scope.specs.Cells.{resolutionOf, isPentagon};
 ghost use Rattle.scope.specs.Table.{table, ascends, paired};
-ghost use Rattle.edge_table.specs.Straight.{fieldsKept, sevens, EdgesKept, sideKept, finiteAt, crosses, SidesAsk, Columns, NoneBad};
+ghost use Rattle.edge_table.specs.Straight.{fieldsKept, sevens, EdgesKept, sideKept, finiteAt, crosses, NoSide, SidesAsk, Columns, NoneBad};
 
 // A one at the lowest bit of each of the fifteen digits.
 const ONES: u64 = 0o111_111_111_111_111;
@@ -131,33 +129,33 @@ fn fields_kept(edges: &[u64], target: u64) -> bool
     end == edges.len()
 }
 
-// Edge 1 of a pentagon. Few edges have only zeros up to their resolution, past which come so many bits: this is asked first.
-fn is_first_side(x: u64, below: usize) -> bool
-    requires { ⌜ below ≡ 3 * (15 - resolutionOf x) ⌝ }
-    ensures { λ b. ⌜ b ≡ (isPentagon x && eqb (x / 2 ^ 56) 17) ⌝ }
+// Whether a row with these fields above its digits is edge 1 of a pentagon. If one is, the first of these rows is: its digits are no higher.
+fn side_among(edges: &[u64], fields: u64) -> bool
+    requires { ⌜ (passes (ascends (now edges)) (length (now edges)) ≡ true) × (fields < 2 ^ 16) ⌝ }
+    ensures { λ b. ⌜ (b ≡ false → NoSide (now (edges .entry)) fields) ⌝ }
 {
-    if (x % 0x2000_0000_0000) >> below != 0 {
+    let low = fields * 0x2000_0000_0000;
+    if !is_pentagon(low) {
         return false;
     }
-    is_pentagon(x) & (x >> 56 == 17)
+    let row = rows_below(edges, low);
+    if edges.len() <= row {
+        return false;
+    }
+    is_pentagon(edges[row]) & (edges[row] >> 56 == 17)
 }
 
-// No edge is edge 1 of a pentagon: these come first in a table in order.
-fn sides_kept(edges: &[u64], target: usize) -> bool
+// No edge is edge 1 of a pentagon, for any base cell: these have the top byte 17.
+fn sides_kept(edges: &[u64], target: u64) -> bool
     requires { ⌜ SidesAsk (now edges) target ⌝ }
-    ensures { λ b. ⌜ b ≡ passes (sideKept (now (edges .entry))) (length (now (edges .entry))) ⌝ }
+    ensures { λ b. ⌜ (b ≡ true → passes (sideKept (now (edges .entry))) (length (now (edges .entry))) ≡ true) ⌝ }
 {
-    let below = 3 * (15 - target);
-    let mut i: usize = 0;
-    while i < edges.len() {
-        let x = edges[i];
-        if 17 < x >> 56 {
-            return true;
-        }
-        if is_first_side(x, below) {
+    let mut base: u64 = 0;
+    while base < 122 {
+        if side_among(edges, (272 + target) * 128 + base) {
             return false;
         }
-        i += 1;
+        base += 1;
     }
     true
 }
@@ -183,8 +181,8 @@ pub(crate) fn none_bad(edges: &[u64], reverse: &[u32], area: &[f64]) -> bool
     if !columns_kept(edges, reverse, area) {
         return false;
     }
-    let target = resolution(edges[0]);
-    if !fields_kept(edges, target as u64) {
+    let target = resolution(edges[0]) as u64;
+    if !fields_kept(edges, target) {
         return false;
     }
     sides_kept(edges, target)

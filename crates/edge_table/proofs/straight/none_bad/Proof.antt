@@ -43,7 +43,7 @@ returns-3 c = λ e.
     let es = c .before .before .before .before .before .before .before .before .before .before .args .edges .now in
     none-bad _ (c .before .before .before .before .before .before .columns-kept .ensures (not-false _ (c .before .before .before .before .before .if1 .left)))
     (ap (λ (r : ℕ). passes (fieldsKept r es) (length es)) (sym (c .before .before .before .resolution .ensures)) ∙ c .before .before .fields-kept .ensures (not-false _ (c .before .if2 .left)))
-    (sym (c .sides-kept .ensures) ∙ e)
+    (c .sides-kept .ensures e)
 
 pub none-bad-spec : {M : Type 1} → statement M
 none-bad-spec =

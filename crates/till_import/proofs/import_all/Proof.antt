@@ -1,0 +1,92 @@
+-- `till_import::import_all` meets its contract. What is lent of the table is what was loaded.
+-- Assumes nothing.
+use borrow.Author.Needs.{needs}
+use mathlib.Core.Path.{sym}
+use lib.Seq.{length-take-le}
+use Rattle.till_import.proofs.Loads.{loaded}
+use Rattle.till_import.proofs.import_all.Statement.{statement}
+use Rattle.till_import.proofs.import_all.Tie as tie
+
+text-bytes-requires : tie.Need-text-bytes-requires
+text-bytes-requires c κs = search needs
+
+row-words-requires : tie.Need-row-words-requires
+row-words-requires c κs = search needs
+
+row-numbers-requires : tie.Need-row-numbers-requires
+row-numbers-requires c κs = search needs
+
+row-floats-requires : tie.Need-row-floats-requires
+row-floats-requires c κs = search needs
+
+buffer-requires : tie.Need-buffer-requires
+buffer-requires c κs = search needs
+
+slice-aggregate-file-named : tie.Need-slice-aggregate-file-named
+slice-aggregate-file-named c = search needs
+
+file-named-requires : tie.Need-file-named-requires
+file-named-requires c κs = search needs
+
+returns : tie.Need-returns
+returns c = search needs
+
+array-share-prefix-name : tie.Need-array-share-prefix-name
+array-share-prefix-name c = search needs
+
+slice-aggregate-table : tie.Need-slice-aggregate-table
+slice-aggregate-table c = search needs
+
+slice-aggregate-load-table : tie.Need-slice-aggregate-load-table
+slice-aggregate-load-table c = search needs
+
+slice-aggregate-load-table-2 : tie.Need-slice-aggregate-load-table-2
+slice-aggregate-load-table-2 c = search needs
+
+slice-aggregate-load-table-3 : tie.Need-slice-aggregate-load-table-3
+slice-aggregate-load-table-3 c = search needs
+
+slice-aggregate-load-table-4 : tie.Need-slice-aggregate-load-table-4
+slice-aggregate-load-table-4 c = search needs
+
+load-table-requires : tie.Need-load-table-requires
+load-table-requires c κs = search needs
+
+enum-known-rows : tie.Need-enum-known-rows
+enum-known-rows c = search needs
+
+enum-told : tie.Need-enum-told
+enum-told c = search needs
+
+returns-2 : tie.Need-returns-2
+returns-2 c = search needs
+
+slice-aggregate-import-over : tie.Need-slice-aggregate-import-over
+slice-aggregate-import-over c = search needs
+
+array-share-prefix-edges : tie.Need-array-share-prefix-edges
+array-share-prefix-edges c = loaded (c .before .before .rows .given .1) (c .before .before .before .before .before .before .before .before .load-table .ensures .0) (c .before .before .before .before .before .before .before .before .load-table .kept .1 .1 .0)
+
+slice-aggregate-import-over-2 : tie.Need-slice-aggregate-import-over-2
+slice-aggregate-import-over-2 c = sym (length-take-le _ _ (loaded (c .before .before .before .rows .given .1) (c .before .before .before .before .before .before .before .before .before .load-table .ensures .0) (c .before .before .before .before .before .before .before .before .before .load-table .kept .1 .1 .0)))
+
+array-share-prefix-reverse : tie.Need-array-share-prefix-reverse
+array-share-prefix-reverse c = loaded (c .before .before .before .rows .given .1) (c .before .before .before .before .before .before .before .before .before .load-table .ensures .1) (c .before .before .before .before .before .before .before .before .before .load-table .kept .1 .1 .1 .0)
+
+slice-aggregate-import-over-3 : tie.Need-slice-aggregate-import-over-3
+slice-aggregate-import-over-3 c = sym (length-take-le _ _ (loaded (c .before .before .before .before .rows .given .1) (c .before .before .before .before .before .before .before .before .before .before .load-table .ensures .1) (c .before .before .before .before .before .before .before .before .before .before .load-table .kept .1 .1 .1 .0)))
+
+array-share-prefix-area : tie.Need-array-share-prefix-area
+array-share-prefix-area c = loaded (c .before .before .before .before .rows .given .1) (c .before .before .before .before .before .before .before .before .before .before .load-table .ensures .2) (c .before .before .before .before .before .before .before .before .before .before .load-table .kept .1 .1 .1 .1 .0)
+
+slice-aggregate-import-over-4 : tie.Need-slice-aggregate-import-over-4
+slice-aggregate-import-over-4 c = sym (length-take-le _ _ (loaded (c .before .before .before .before .before .rows .given .1) (c .before .before .before .before .before .before .before .before .before .before .before .load-table .ensures .2) (c .before .before .before .before .before .before .before .before .before .before .before .load-table .kept .1 .1 .1 .1 .0)))
+
+import-over-requires : tie.Need-import-over-requires
+import-over-requires c κs = search needs
+
+returns-3 : tie.Need-returns-3
+returns-3 c = search needs
+
+pub import-all-spec : {M : Type 1} → statement M
+import-all-spec = tie.close (tie.spec text-bytes-requires row-words-requires row-numbers-requires row-floats-requires buffer-requires slice-aggregate-file-named file-named-requires returns array-share-prefix-name slice-aggregate-table slice-aggregate-load-table slice-aggregate-load-table-2 slice-aggregate-load-table-3 slice-aggregate-load-table-4 load-table-requires enum-known-rows enum-told returns-2 slice-aggregate-import-over array-share-prefix-edges slice-aggregate-import-over-2 array-share-prefix-reverse slice-aggregate-import-over-3 array-share-prefix-area slice-aggregate-import-over-4 import-over-requires returns-3)

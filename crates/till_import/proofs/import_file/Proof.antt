@@ -1,0 +1,92 @@
+-- `till_import::import_file` meets its contract. What is lent of the list is what was loaded.
+-- Assumes nothing.
+use borrow.Author.Needs.{needs}
+use mathlib.Core.Path.{sym}
+use lib.Seq.{length-take-le}
+use Rattle.till_import.proofs.Loads.{loaded}
+use Rattle.till_import.proofs.import_file.Statement.{statement}
+use Rattle.till_import.proofs.import_file.Tie as tie
+
+place-words-requires : tie.Need-place-words-requires
+place-words-requires c κs = search needs
+
+place-lines-requires : tie.Need-place-lines-requires
+place-lines-requires c κs = search needs
+
+ring-numbers-requires : tie.Need-ring-numbers-requires
+ring-numbers-requires c κs = search needs
+
+ring-numbers-requires-2 : tie.Need-ring-numbers-requires-2
+ring-numbers-requires-2 c κs = search needs
+
+ring-numbers-requires-3 : tie.Need-ring-numbers-requires-3
+ring-numbers-requires-3 c κs = search needs
+
+ring-floats-requires : tie.Need-ring-floats-requires
+ring-floats-requires c κs = search needs
+
+edge-numbers-requires : tie.Need-edge-numbers-requires
+edge-numbers-requires c κs = search needs
+
+slice-aggregate-load-cells : tie.Need-slice-aggregate-load-cells
+slice-aggregate-load-cells c = search needs
+
+slice-aggregate-load-cells-2 : tie.Need-slice-aggregate-load-cells-2
+slice-aggregate-load-cells-2 c = search needs
+
+load-cells-requires : tie.Need-load-cells-requires
+load-cells-requires c κs = search needs
+
+enum-known-count : tie.Need-enum-known-count
+enum-known-count c = search needs
+
+enum-told : tie.Need-enum-told
+enum-told c = search needs
+
+same-length : tie.Need-same-length
+same-length c = search needs
+
+returns : tie.Need-returns
+returns c = search needs
+
+array-share-prefix-lines : tie.Need-array-share-prefix-lines
+array-share-prefix-lines c = loaded (c .before .before .count .given .1) (c .before .before .before .before .before .before .before .before .load-cells .ensures .1) (c .before .before .before .before .before .before .before .before .load-cells .kept .1 .1 .1 .0)
+
+slice-aggregate-import : tie.Need-slice-aggregate-import
+slice-aggregate-import c = sym (length-take-le _ _ (loaded (c .before .before .before .count .given .1) (c .before .before .before .before .before .before .before .before .before .load-cells .ensures .1) (c .before .before .before .before .before .before .before .before .before .load-cells .kept .1 .1 .1 .0)))
+
+array-share-prefix-cells : tie.Need-array-share-prefix-cells
+array-share-prefix-cells c = loaded (c .before .before .before .count .given .1) (c .before .before .before .before .before .before .before .before .before .load-cells .ensures .0) (c .before .before .before .before .before .before .before .before .before .load-cells .kept .1 .1 .0)
+
+slice-aggregate-import-2 : tie.Need-slice-aggregate-import-2
+slice-aggregate-import-2 c = sym (length-take-le _ _ (loaded (c .before .before .before .before .count .given .1) (c .before .before .before .before .before .before .before .before .before .before .load-cells .ensures .0) (c .before .before .before .before .before .before .before .before .before .before .load-cells .kept .1 .1 .0)))
+
+slice-aggregate-import-3 : tie.Need-slice-aggregate-import-3
+slice-aggregate-import-3 c = search needs
+
+slice-aggregate-import-4 : tie.Need-slice-aggregate-import-4
+slice-aggregate-import-4 c = search needs
+
+slice-aggregate-import-5 : tie.Need-slice-aggregate-import-5
+slice-aggregate-import-5 c = search needs
+
+slice-aggregate-import-6 : tie.Need-slice-aggregate-import-6
+slice-aggregate-import-6 c = search needs
+
+slice-aggregate-import-7 : tie.Need-slice-aggregate-import-7
+slice-aggregate-import-7 c = search needs
+
+import-requires : tie.Need-import-requires
+import-requires c κs = search needs
+
+say-told-requires : tie.Need-say-told-requires
+say-told-requires c κs = search needs
+
+same-length-2 : tie.Need-same-length-2
+same-length-2 c = search needs
+
+returns-2 : tie.Need-returns-2
+returns-2 c = search needs
+
+pub import-file-spec : {M : Type 1} → statement M
+import-file-spec = tie.close (tie.spec place-words-requires place-lines-requires ring-numbers-requires ring-numbers-requires-2 ring-numbers-requires-3 ring-floats-requires edge-numbers-requires slice-aggregate-load-cells slice-aggregate-load-cells-2 load-cells-requires enum-known-count enum-told same-length returns array-share-prefix-lines slice-aggregate-import array-share-prefix-cells slice-aggregate-import-2 slice-aggregate-import-3 slice-aggregate-import-4 slice-aggregate-import-5 slice-aggregate-import-6 slice-aggregate-import-7 import-requires say-told-requires same-length-2 returns-2)

@@ -1,0 +1,2 @@
+-- What an import leaves.
+pub mod Imports

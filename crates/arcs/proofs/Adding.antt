@@ -19,6 +19,7 @@ use Rattle.scope.proofs.Puts.{putAll-length}
 use Rattle.scope.proofs.Placed.{slots-fresh, slots-free, slots-in}
 use Rattle.scope.proofs.Sound.{sound-table, offered-outline, offered-room}
 use Rattle.scope.proofs.Taking.{placedFor, offered-many, sound-forest}
+use Rattle.arcs.specs.Search.{Flags}
 use Rattle.arcs.specs.Place.{freeIn, slotsAt}
 use Rattle.arcs.specs.Cancel.{pool}
 use Rattle.arcs.specs.CancelRows.{reverses, CancelAsks, RowsCancelled}
@@ -35,14 +36,14 @@ not-none (a ∷ l) v i z = ⊎-elim
     (λ (k : List·Memᴰ v (map suc l)). not-none l v k z)
     (List·Memᴰ·cases-cons i)
 
-module _ {t : Table} {m : Memory} {x : ℕ} {o : List ℕ} (A : AddAsks t m x o) where
+module _ {t : Table} {m : Memory} {full : List ℕ} {x : ℕ} {o : List ℕ} (A : AddAsks t m full x o) where
   pub hold-asks : HoldAsks (m .head) (m .cells) (m .parent) (m .rank)
   hold-asks =
       let l = A .offered .sound .lengths in
       let f = l .most-places in
       record { two = l .head; room = offered-room (A .offered); forest = sound-forest (A .offered); even = l .parent; fits = omega arith }
 
-  pub outline-asks : {place : ℕ} → place ≡ at (m .head) 1 → OutlineAsks (m .slotRow) (m .slotCell) (m .prev) (m .next) (m .rowSlot) o place
+  pub outline-asks : {place : ℕ} → place ≡ at (m .head) 1 → OutlineAsks (m .slotRow) (m .slotCell) (m .prev) (m .next) (m .rowSlot) full o place
   unfolding freeSlots
   outline-asks {place} e =
       let l = A .offered .sound .lengths in
@@ -56,6 +57,7 @@ module _ {t : Table} {m : Memory} {x : ℕ} {o : List ℕ} (A : AddAsks t m x o)
         placing = record {
           in-table = λ i h. rw (l .row-slot) (f .in-table _ (mem-at (outlineRows t x) i h));
           enough = f .room;
+          flags = A .flags;
           even = l .slot-cell;
           slots-fit = omega arith;
           rows-fit = omega arith;
@@ -68,9 +70,9 @@ module _ {t : Table} {m : Memory} {x : ℕ} {o : List ℕ} (A : AddAsks t m x o)
 
   -- ---- the cell and its outline
 
-  module _ {place : ℕ} {head′ cells′ parent′ rank′ slotRow′ slotCell′ prev′ next′ rowSlot′ : List ℕ}
+  module _ {place : ℕ} {head′ cells′ parent′ rank′ slotRow′ slotCell′ prev′ next′ rowSlot′ full′ : List ℕ}
       (H : CellHeld (m .head) (m .cells) (m .parent) (m .rank) x place head′ cells′ parent′ rank′)
-      (P : OutlinePlaced (m .slotRow) (m .slotCell) (m .prev) (m .next) (m .rowSlot) o place slotRow′ slotCell′ prev′ next′ rowSlot′) where
+      (P : OutlinePlaced (m .slotRow) (m .slotCell) (m .prev) (m .next) (m .rowSlot) o place slotRow′ slotCell′ prev′ next′ rowSlot′ full′) where
     -- the state that they leave
     abbrev pub between : Memory
     between = memory head′ cells′ parent′ rank′ (m .cellMark) slotRow′ slotCell′ prev′ next′ rowSlot′ (m .rowMark)
@@ -107,10 +109,12 @@ module _ {t : Table} {m : Memory} {x : ℕ} {o : List ℕ} (A : AddAsks t m x o)
 
     -- ALL OF IT
     pub added : {pairs : ℕ} (c : Memory) → RowsCancelled (reverses (t .reverse)) (pool parent′ rank′ slotRow′ slotCell′ prev′ next′ rowSlot′) (place + 1) o pairs c
-        → Added t m x pairs (memory head′ cells′ (c .parent) (c .rank) (m .cellMark) (c .slotRow) (c .slotCell) (c .prev) (c .next) (c .rowSlot) (m .rowMark))
+        → {full″ : List ℕ} → Flags full″ (c .slotRow)
+        → Added t m x pairs (memory head′ cells′ (c .parent) (c .rank) (m .cellMark) (c .slotRow) (c .slotCell) (c .prev) (c .next) (c .rowSlot) (m .rowMark)) full″
     unfolding taking freeSlots
-    added c D = record {
+    added c D F = record {
       left = cancelled-same t between (slotsAt rowSlot′ o) (A .offered .sound .lengths .reverse) c (D .left)
           ∙ ap (λ (w : Memory). cancelled t w (slotsAt rowSlot′ o)) placed-is ∙ ap (cancelled t (placedFor t m x)) slots-are;
       free = let f = D .free in let k = fewer in omega arith;
+      flags = F;
     }

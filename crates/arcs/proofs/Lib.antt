@@ -3,6 +3,7 @@
 pub mod Opening
 -- Placing an outline: the search for a slot, the rows, the links, both together.
 pub mod Searching
+pub mod Blocks
 pub mod Placing
 pub mod Linking
 pub mod PlacedSlots
@@ -18,6 +19,7 @@ pub mod After
 pub mod Cancelling
 pub mod Skipping
 pub mod Clearing
+pub mod Unflagging
 pub mod Pairing
 pub mod Cancelled
 pub mod RowsMet

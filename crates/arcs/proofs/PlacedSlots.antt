@@ -13,13 +13,14 @@ use lib.Seq.{ext-getD}
 use Rattle.scope.specs.Lists.{at, putAll}
 use Rattle.scope.proofs.Members.{mem-at, mem-below}
 use Rattle.scope.proofs.Puts.{putAll-length, putAll-at, mem-take}
-use Rattle.arcs.specs.Place.{usedIn, freeIn, slotsIn, slotsAt, PlacedRows, LinkAsks, LinkedRows}
+use Rattle.arcs.specs.Search.{usedIn}
+use Rattle.arcs.specs.Place.{freeIn, slotsIn, slotsAt, PlacedRows, LinkAsks, LinkedRows}
 use Rattle.union_find.specs.Contracts.{AddAsks, Added}
 use Rattle.arcs.specs.Taking.{HoldAsks, CellHeld, OutlineAsks, OutlinePlaced}
 use Rattle.arcs.proofs.Placing.{map-at, slots-many}
 use Rattle.arcs.proofs.Linking.{slots-at}
 
-module _ {slotRow slotCell prev next rowSlot o : List ℕ} {place : ℕ} (A : OutlineAsks slotRow slotCell prev next rowSlot o place) where
+module _ {slotRow slotCell prev next rowSlot full o : List ℕ} {place : ℕ} (A : OutlineAsks slotRow slotCell prev next rowSlot full o place) where
   many : length (slotsIn slotRow o) ≡ length o
   many = slots-many (A .placing)
 
@@ -35,7 +36,7 @@ module _ {slotRow slotCell prev next rowSlot o : List ℕ} {place : ℕ} (A : Ou
       (λ i h. let l : i < length o = rw (length-map o _) at h in
       slots-at (putAll o (map suc (slotsIn slotRow o)) rowSlot) o i l ∙ ap (λ (k : ℕ). k - 1) (given i l) ∙ omega arith)
 
-  module _ {slotRow′ slotCell′ rowSlot′ : List ℕ} (P : PlacedRows slotRow slotCell rowSlot o place slotRow′ slotCell′ rowSlot′) where
+  module _ {slotRow′ slotCell′ rowSlot′ full′ : List ℕ} (P : PlacedRows slotRow slotCell rowSlot o place slotRow′ slotCell′ rowSlot′ full′) where
     pub link-asks : LinkAsks prev next rowSlot′ o
     link-asks =
         let n = A .even-next in
@@ -48,7 +49,7 @@ module _ {slotRow slotCell prev next rowSlot o : List ℕ} {place : ℕ} (A : Ou
         })
 
     pub outline-done : {prev′ next′ : List ℕ} → LinkedRows prev next rowSlot′ o prev′ next′
-        → OutlinePlaced slotRow slotCell prev next rowSlot o place slotRow′ slotCell′ prev′ next′ rowSlot′
+        → OutlinePlaced slotRow slotCell prev next rowSlot o place slotRow′ slotCell′ prev′ next′ rowSlot′ full′
     outline-done L =
         let s : slotsAt rowSlot′ o ≡ slotsIn slotRow o = rw (P .slots) slots-given in
         record {
@@ -57,6 +58,7 @@ module _ {slotRow slotCell prev next rowSlot o : List ℕ} {place : ℕ} (A : Ou
           prevs = rw s at (L .prevs);
           nexts = rw s at (L .nexts);
           slots = P .slots;
+          flags = P .flags;
         }
 
 -- ---- the cell takes its place

@@ -3,17 +3,21 @@
 --     placing-start, placing-slot, placing-turn, placing-end
 -- Assumes nothing.
 use mathlib.Core.Path.{_≡_, refl, sym, ap, _∙_}
+use mathlib.Core.Logic.{_≢_}
 use mathlib.Core.Bool.{not}
 use mathlib.Core.List.{List, [], _∷_, map}
 use Prim.Native.Nat.{ℕ, zero, suc, _+_, _-_, _≤_, _<_, _^_}
 use native.Mathlib.Numerals.{add-one}
 use native.Mathlib.Omega.{arith}
 use lib.ListN.{length, set, take, drop, replicate, length-set, length-take, length-drop, drop-of-length-le, length-map, length-replicate, getD-replicate}
-use lib.Seq.{length-take-le, drop-cons, getD-set-other}
+use lib.Seq.{length-take-le, drop-cons, getD-set-same, getD-set-other}
 use Rattle.scope.specs.Lists.{at, putAll}
 use Rattle.scope.proofs.Stores.{putAll-step, passing, below-passing, passing-next}
+use Rattle.scope.proofs.Members.{cases}
 use Rattle.arcs.proofs.Searching.{from-same}
-use Rattle.arcs.specs.Place.{usedIn, freeIn, slotsIn, freeFrom, PlaceAsks, PlacedRows}
+use Rattle.arcs.proofs.Blocks.{below-used}
+use Rattle.arcs.specs.Search.{usedIn, freeFrom, Flags, SearchAsks, Searched}
+use Rattle.arcs.specs.Place.{freeIn, slotsIn, PlaceAsks, PlacedRows}
 
 -- ---- the loop
 
@@ -28,40 +32,60 @@ map-at [] i h = absurd (omega arith)
 map-at (x ∷ l) zero h = refl
 map-at (x ∷ l) (suc i) h = map-at l i (omega arith)
 
-pub record Placing (slotRow slotCell rowSlot o : List ℕ) (n i start : ℕ) (slotRow′ slotCell′ rowSlot′ : List ℕ) : Type 0 where
+-- a slot that a row is stored in is used, the others as they were
+used-set : (rows : List ℕ) (s k v : ℕ) → s < length rows → (k ≢ s → at rows k ≢ 0) → at (set rows s (v + 1)) k ≢ 0
+used-set rows s k v h u z = cases k s
+    (λ e. let r : at (set rows s (v + 1)) k ≡ v + 1 = ap (at (set rows s (v + 1))) e ∙ getD-set-same rows s (v + 1) 0 h in omega arith)
+    (λ d. u d (sym (getD-set-other rows s k (v + 1) 0 d) ∙ z))
+
+flags-set : {full rows : List ℕ} {s : ℕ} (v : ℕ) → s < length rows → Flags full rows → Flags full (set rows s (v + 1))
+flags-set {rows = rows} {s} v h F = record {
+  room = rw length-set (F .room);
+  few = F .few;
+  unset = λ k g z. F .unset k (rw length-set at g) (cases (at rows k) 0 (λ e. e) (λ u. absurd (used-set rows s k v h (λ d. u) z)));
+}
+
+pub record Placing (slotRow slotCell rowSlot full o : List ℕ) (n i start : ℕ) (slotRow′ slotCell′ rowSlot′ full′ : List ℕ) : Type 0 where
   pub within : i ≤ length o
   pub cursor : start ≤ length slotRow
   -- the free slots from the cursor on are those that the edges left will take
   pub left : take (length o - i) (passing (λ s. not (usedIn slotRow s)) start (length slotRow - start)) ≡ drop i (slotsIn slotRow o)
   pub same : (s : ℕ) → start ≤ s → at slotRow′ s ≡ at slotRow s
+  -- no slot below it is free
+  pub packed : (s : ℕ) → s < start → at slotRow′ s ≢ 0
+  pub flags : Flags full′ slotRow′
   pub rows : putAll (drop i (slotsIn slotRow o)) (drop i (map suc o)) slotRow′ ≡ putAll (slotsIn slotRow o) (map suc o) slotRow
   pub cells : putAll (drop i (slotsIn slotRow o)) (drop i (replicate (length o) n)) slotCell′ ≡ putAll (slotsIn slotRow o) (replicate (length o) n) slotCell
   pub slots : putAll (drop i o) (drop i (map suc (slotsIn slotRow o))) rowSlot′ ≡ putAll o (map suc (slotsIn slotRow o)) rowSlot
   pub long-rows : length slotRow′ ≡ length slotRow
   pub long-cells : length slotCell′ ≡ length slotCell
   pub long-slots : length rowSlot′ ≡ length rowSlot
+  pub long-full : length full′ ≡ length full
 
-module _ {slotRow slotCell rowSlot o : List ℕ} {n : ℕ} (A : PlaceAsks slotRow slotCell rowSlot o n) where
+module _ {slotRow slotCell rowSlot full o : List ℕ} {n : ℕ} (A : PlaceAsks slotRow slotCell rowSlot full o n) where
   pub slots-many : length (slotsIn slotRow o) ≡ length o
   slots-many = length-take-le (length o) (freeIn slotRow) (A .enough)
 
-  pub placing-start : Placing slotRow slotCell rowSlot o n 0 0 slotRow slotCell rowSlot
+  pub placing-start : Placing slotRow slotCell rowSlot full o n 0 0 slotRow slotCell rowSlot full
   placing-start = record {
     within = omega arith;
     cursor = omega arith;
     left = rw (let e : length o - 0 ≡ length o = omega arith in e, let e : length slotRow - 0 ≡ length slotRow = omega arith in e)
         (ap (take (length o)) (sym (below-passing (λ s. not (usedIn slotRow s)) (length slotRow))));
     same = λ s h. refl;
+    packed = λ s h. absurd (omega arith);
+    flags = A .flags;
     rows = refl;
     cells = refl;
     slots = refl;
     long-rows = refl;
     long-cells = refl;
     long-slots = refl;
+    long-full = refl;
   }
 
-  module _ {i start : ℕ} {slotRow′ slotCell′ rowSlot′ : List ℕ} (P : Placing slotRow slotCell rowSlot o n i start slotRow′ slotCell′ rowSlot′) where
-    pub placing-end : length o ≤ i → PlacedRows slotRow slotCell rowSlot o n slotRow′ slotCell′ rowSlot′
+  module _ {i start : ℕ} {slotRow′ slotCell′ rowSlot′ full′ : List ℕ} (P : Placing slotRow slotCell rowSlot full o n i start slotRow′ slotCell′ rowSlot′ full′) where
+    pub placing-end : length o ≤ i → PlacedRows slotRow slotCell rowSlot o n slotRow′ slotCell′ rowSlot′ full′
     unfolding putAll
     placing-end h =
         let none : drop i (slotsIn slotRow o) ≡ [] =
@@ -71,6 +95,7 @@ module _ {slotRow slotCell rowSlot o : List ℕ} {n : ℕ} (A : PlaceAsks slotRo
           rows = rw none at (P .rows);
           cells = rw none at (P .cells);
           slots = rw done at (P .slots);
+          flags = P .flags;
         }
 
     -- the slot that the search answers is the next edge's
@@ -102,6 +127,14 @@ module _ {slotRow slotCell rowSlot o : List ℕ} {n : ℕ} (A : PlaceAsks slotRo
             later = cc;
           }
 
+      pub search-asks : SearchAsks slotRow′ full′ start
+      search-asks =
+          let s = placing-slot refl .low in
+          let e = P .long-rows in
+          let c = P .cursor in
+          let f = A .slots-fit in
+          record { cursor = omega arith; some = omega arith; packed = P .packed; flags = P .flags; fits = omega arith }
+
       -- the three stores are in range, and what they store fits
       pub record Fits (s row : ℕ) : Type 0 where
         pub in-row : s < length slotRow′
@@ -124,16 +157,19 @@ module _ {slotRow slotCell rowSlot o : List ℕ} {n : ℕ} (A : PlaceAsks slotRo
           record { in-row = omega arith; in-cell = omega arith; in-slot = omega arith; row-fits = omega arith; slot-fits = omega arith; cell-fits = A .cells-fit }
 
       -- A TURN: the three stores
-      pub placing-turn : {s row : ℕ} → Slot s → row ≡ at o i → {slotRow″ slotCell″ rowSlot″ : List ℕ}
+      pub placing-turn : {s row : ℕ} {full″ : List ℕ} → Slot s → Searched slotRow′ start s full″ → length full″ ≡ length full′ → row ≡ at o i → {slotRow″ slotCell″ rowSlot″ : List ℕ}
           → slotRow″ ≡ set slotRow′ s (row + 1) → slotCell″ ≡ set slotCell′ s n → rowSlot″ ≡ set rowSlot′ row (s + 1)
-          → Placing slotRow slotCell rowSlot o n (i + 1) (s + 1) slotRow″ slotCell″ rowSlot″
-      placing-turn {s} S e er ec es =
+          → Placing slotRow slotCell rowSlot full o n (i + 1) (s + 1) slotRow″ slotCell″ rowSlot″ full″
+      placing-turn {s} S F long e er ec es =
           let is = S .is in
+          let in-pool : s < length slotRow′ = omega (arith, S .low, P .long-rows) in
           rw (er, ec, es, e, add-one i, add-one s) (record {
             within = omega arith;
             cursor = S .low;
             left = S .later;
             same = λ k l. getD-set-other slotRow′ s k (at o i + 1) 0 (λ e. omega arith) ∙ P .same k (omega (arith, S .high));
+            packed = λ k g. used-set slotRow′ s k (at o i) in-pool (λ d. below-used search-asks k (omega (arith, F .found)));
+            flags = flags-set (at o i) in-pool (F .flags);
             rows = store-next (slotsIn slotRow o) (map suc o) slotRow′ i (rw slots-many h) (rw length-map h) is (add-one (at o i) ∙ sym (map-at o i h)) (P .rows);
             cells = store-next (slotsIn slotRow o) (replicate (length o) n) slotCell′ i (rw slots-many h) (rw length-replicate h) is
                 (sym (getD-replicate (length o) i n 0 h)) (P .cells);
@@ -142,4 +178,5 @@ module _ {slotRow slotCell rowSlot o : List ℕ} {n : ℕ} (A : PlaceAsks slotRo
             long-rows = length-set slotRow′ s (at o i + 1) ∙ P .long-rows;
             long-cells = length-set slotCell′ s n ∙ P .long-cells;
             long-slots = length-set rowSlot′ (at o i) (suc s) ∙ P .long-slots;
+            long-full = long ∙ P .long-full;
           })

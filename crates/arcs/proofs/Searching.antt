@@ -2,9 +2,11 @@
 --     from-same                        the lowest failure from i on looks at nothing below i
 --     free-here, free-on, free-end     the search as a loop
 --     two-passed, joined               several used slots at a time
+--     First                            what the search finds: `free-first`, and it is the only such slot, `first-one`
 -- Assumes nothing.
 use mathlib.Core.Path.{_≡_, refl, sym, _∙_, ap}
-use mathlib.Core.Bool.{Bool, true, _&&_, not, cond}
+use mathlib.Core.Logic.{_≢_, ⊎-elim}
+use mathlib.Core.Bool.{Bool, true, false, _&&_, not, cond}
 use mathlib.Core.List.{List}
 use Prim.Native.Nat.{ℕ, zero, suc, _+_, _-_, _≤_, _<_}
 use native.Mathlib.Numerals.{add-one}
@@ -13,8 +15,9 @@ use lib.Dec.{eqb}
 use lib.ListN.{length}
 use borrow.Author.Tests.{eq-eqb, ne-eqb}
 use Rattle.scope.specs.Lists.{at, from}
-use Rattle.scope.proofs.Tests.{clash, and-left, and-right}
-use Rattle.arcs.specs.Place.{freeFrom, PassedOver}
+use Rattle.scope.proofs.Tests.{clash, either, le-or-lt, and-left, and-right}
+use Rattle.scope.proofs.Members.{cases}
+use Rattle.arcs.specs.Search.{freeFrom, PassedOver}
 
 pub from-same : (ok ko : ℕ → Bool) (n i : ℕ) → ((k : ℕ) → i ≤ k → ok k ≡ ko k) → from ok n i ≡ from ko n i
 unfolding from
@@ -57,3 +60,49 @@ pub joined : {rows : List ℕ} {i n m : ℕ} {a b : Bool} → PassedOver a rows 
 joined {rows} {i} {n} {m} {a} {b} P Q = record {
   shown = λ t. let s : i + (n + m) ≡ i + n + m = omega arith in ap (freeFrom rows) s ∙ Q .shown (and-right a b t) ∙ P .shown (and-left a b t);
 }
+
+-- ---- what is found
+
+pub record First (rows : List ℕ) (i s : ℕ) : Type 0 where
+  pub high : i ≤ s
+  pub within : s ≤ length rows
+  pub used : (k : ℕ) → i ≤ k → k < s → at rows k ≢ 0
+  pub free : s < length rows → at rows s ≡ 0
+
+-- the same of any test
+record FirstOf (ok : ℕ → Bool) (n i s : ℕ) : Type 0 where
+  high : i ≤ s
+  within : s ≤ i + n
+  pass : (k : ℕ) → i ≤ k → k < s → ok k ≡ true
+  fail : s < i + n → ok s ≡ false
+
+from-first : (ok : ℕ → Bool) (n i : ℕ) → FirstOf ok n i (from ok n i)
+unfolding from
+from-first ok zero i = record { high = omega arith; within = omega arith; pass = λ k h l. absurd (omega arith); fail = λ h. absurd (omega arith) }
+from-first ok (suc n) i = ⊎-elim
+    (λ (t : ok i ≡ true). rw t
+    (let r = from-first ok n (suc i) in
+    record {
+      high = omega (arith, r .high);
+      within = omega (arith, r .within);
+      pass = λ k h l. cases k i (λ e. ap ok e ∙ t) (λ d. r .pass k (omega arith) l);
+      fail = λ h. r .fail (omega arith);
+    }))
+    (λ (t : ok i ≡ false). rw t (record { high = omega arith; within = omega arith; pass = λ k h l. absurd (omega arith); fail = λ h. t }))
+    (either (ok i))
+
+pub free-first : (rows : List ℕ) (i : ℕ) → i ≤ length rows → First rows i (freeFrom rows i)
+free-first rows i h =
+    let r = from-first (λ s. not (eqb (at rows s) 0)) (length rows - i) i in
+    record {
+      high = r .high;
+      within = omega (arith, r .within);
+      used = λ k g l z. clash (r .pass k g l) (ap not (eq-eqb (at rows k) 0 z));
+      free = λ g. cases (at rows (freeFrom rows i)) 0 (λ z. z) (λ u. absurd (clash (ap not (ne-eqb (at rows (freeFrom rows i)) 0 u)) (r .fail (omega arith))));
+    }
+
+not-lower : {rows : List ℕ} {i s r : ℕ} → First rows i s → First rows i r → s < r → ⊥
+not-lower {rows} {i} {s} {r} S R h = R .used s (S .high) h (S .free (omega (arith, R .within)))
+
+pub first-one : {rows : List ℕ} {i s r : ℕ} → First rows i s → First rows i r → s ≡ r
+first-one S R = let p = not-lower S R in let q = not-lower R S in omega arith

@@ -1,4 +1,5 @@
 -- What the contracts of this crate say.
+pub mod Search
 pub mod Place
 pub mod Cancel
 pub mod CancelRows

@@ -1,44 +1,35 @@
 -- Placing an outline, by the lists that it changes: slot rows, slot cells, row slots, and the links.
 -- Assumes nothing.
 use mathlib.Core.Path.{_≡_}
-use mathlib.Core.Bool.{Bool, true, not}
+use mathlib.Core.Bool.{not}
 use mathlib.Core.List.{List, map}
-use Prim.Native.Nat.{ℕ, suc, _+_, _-_, _≤_, _<_, _^_}
-use lib.Dec.{eqb}
+use Prim.Native.Nat.{ℕ, suc, _-_, _≤_, _<_, _^_}
 use lib.ListN.{length, take, replicate}
-use Rattle.scope.specs.Lists.{at, from, below, rotate, putAll}
+use Rattle.scope.specs.Lists.{at, below, rotate, putAll}
+use Rattle.arcs.specs.Search.{usedIn, Flags}
 
--- A slot is used when it holds a row; `freeIn` are scope's `freeSlots` of a state with these slot rows, `slotsIn` its `slotsFor`.
-abbrev pub usedIn : List ℕ → ℕ → Bool
-usedIn slotRow s = not (eqb (at slotRow s) 0)
-
+-- `freeIn` are scope's `freeSlots` of a state with these slot rows, `slotsIn` its `slotsFor`.
 abbrev pub freeIn : List ℕ → List ℕ
 freeIn slotRow = below (λ s. not (usedIn slotRow s)) (length slotRow)
 
 abbrev pub slotsIn : List ℕ → List ℕ → List ℕ
 slotsIn slotRow o = take (length o) (freeIn slotRow)
 
--- the lowest free slot from i on, or the number of slots
-abbrev pub freeFrom : List ℕ → ℕ → ℕ
-freeFrom slotRow i = from (usedIn slotRow) (length slotRow - i) i
-
--- the answer true says that the lowest free slot from i on is the same from i + n on
-pub record PassedOver (b : Bool) (slotRow : List ℕ) (i n : ℕ) : Type 0 where
-  pub shown : b ≡ true → freeFrom slotRow (i + n) ≡ freeFrom slotRow i
-
--- The outline's rows are in the table, and enough slots are free. The rest are sizes that fit.
-pub record PlaceAsks (slotRow slotCell rowSlot o : List ℕ) (n : ℕ) : Type 0 where
+-- The outline's rows are in the table, enough slots are free, and blocks that are flagged have none. The rest are sizes that fit.
+pub record PlaceAsks (slotRow slotCell rowSlot full o : List ℕ) (n : ℕ) : Type 0 where
   pub in-table : (i : ℕ) → i < length o → at o i < length rowSlot
   pub enough : length o ≤ length (freeIn slotRow)
+  pub flags : Flags full slotRow
   pub even : length slotCell ≡ length slotRow
   pub slots-fit : length slotRow < 2 ^ 32
   pub rows-fit : length rowSlot < 2 ^ 32
   pub cells-fit : n < 2 ^ 32
 
-pub record PlacedRows (slotRow slotCell rowSlot o : List ℕ) (n : ℕ) (slotRow′ slotCell′ rowSlot′ : List ℕ) : Type 0 where
+pub record PlacedRows (slotRow slotCell rowSlot o : List ℕ) (n : ℕ) (slotRow′ slotCell′ rowSlot′ full′ : List ℕ) : Type 0 where
   pub rows : slotRow′ ≡ putAll (slotsIn slotRow o) (map suc o) slotRow
   pub cells : slotCell′ ≡ putAll (slotsIn slotRow o) (replicate (length o) n) slotCell
   pub slots : rowSlot′ ≡ putAll o (map suc (slotsIn slotRow o)) rowSlot
+  pub flags : Flags full′ slotRow′
 
 -- The slots of rows that have one.
 abbrev pub slotsAt : List ℕ → List ℕ → List ℕ

@@ -1,91 +1,34 @@
 // Placing an outline: its i-th edge takes the i-th lowest free slot, and its edges are linked in walk order.
+use crate::search::lowest_free;
 use slices::get32;
 use slices::put32;
 use union_find::add;
 ghost use mathlib.Core.Path.{_≡_};
-ghost use Prim.Native.Nat.{_+_, _<_, _≤_};
+ghost use Prim.Native.Nat.{_<_};
 ghost use lib.ListN.{length};
 ghost use Rattle.scope.specs.Lists.{at};
 ghost use Rattle.scope.proofs.Outlines.{onward};
-ghost use Rattle.arcs.specs.Place.{freeIn, freeFrom, PassedOver, PlaceAsks, PlacedRows, slotsAt, SlotAsks, LinkAsks, LinkedRows};
+ghost use Rattle.arcs.specs.Place.{freeIn, PlaceAsks, PlacedRows, slotsAt, SlotAsks, LinkAsks, LinkedRows};
 ghost use Rattle.arcs.specs.Taking.{HoldAsks, CellHeld, OutlineAsks, OutlinePlaced};
 
-// Two slots are used: a search may go on behind them. Eight at a time are few instructions.
-fn two_used(slot_row: &[u32], i: usize) -> bool
-    requires { ⌜ i + 2 ≤ length (now «slot_row») ⌝ }
-    ensures { λ b. ⌜ PassedOver b (now («slot_row» .entry)) i 2 ⌝ }
-{
-    (slot_row[i] != 0) & (slot_row[i + 1] != 0)
-}
-
-fn four_used(slot_row: &[u32], i: usize) -> bool
-    requires { ⌜ i + 4 ≤ length (now «slot_row») ⌝ }
-    ensures { λ b. ⌜ PassedOver b (now («slot_row» .entry)) i 4 ⌝ }
-{
-    two_used(slot_row, i) & two_used(slot_row, i + 2)
-}
-
-fn eight_used(slot_row: &[u32], i: usize) -> bool
-    requires { ⌜ i + 8 ≤ length (now «slot_row») ⌝ }
-    ensures { λ b. ⌜ PassedOver b (now («slot_row» .entry)) i 8 ⌝ }
-{
-    four_used(slot_row, i) & four_used(slot_row, i + 4)
-}
-
-// From `start` on, behind as many used slots as go by eights.
-fn skip_used(slot_row: &[u32], start: usize) -> usize
-    requires { ⌜ start ≤ length (now «slot_row») ⌝ }
-    ensures { λ r. ⌜ (r ≤ length (now («slot_row» .entry))) × (freeFrom (now («slot_row» .entry)) r ≡ freeFrom (now («slot_row» .entry)) start) ⌝ }
-{
-    let mut i = start;
-    while 8 <= slot_row.len() - i {
-        if !eight_used(slot_row, i) {
-            return i;
-        }
-        i += 8;
-    }
-    i
-}
-
-// The lowest free slot from `start` on, or the pool's size where there is none, one by one.
-fn step_to_free(slot_row: &[u32], start: usize) -> usize
-    requires { ⌜ start ≤ length (now «slot_row») ⌝ }
-    ensures { λ r. ⌜ r ≡ freeFrom (now («slot_row» .entry)) start ⌝ }
-{
-    let mut i = start;
-    while i < slot_row.len() {
-        if get32(slot_row, i) == 0 {
-            return i;
-        }
-        i += 1;
-    }
-    i
-}
-
-fn next_free(slot_row: &[u32], start: usize) -> usize
-    requires { ⌜ start ≤ length (now «slot_row») ⌝ }
-    ensures { λ r. ⌜ r ≡ freeFrom (now («slot_row» .entry)) start ⌝ }
-{
-    step_to_free(slot_row, skip_used(slot_row, start))
-}
-
 // Puts the rows of an outline into the lowest free slots, in their order. The search for a slot goes on
-// from the last one, so that it passes over the pool once.
+// from the last one: no slot is free below it.
 fn place_rows(
     slot_row: &mut [u32],
     slot_cell: &mut [u32],
     row_slot: &mut [u32],
+    full: &mut [u32],
     rows: &[u32],
     place: usize,
 )
-    requires { ⌜ PlaceAsks (now «slot_row») (now «slot_cell») (now «row_slot») (now rows) place ⌝ }
-    ensures { λ _. ⌜ PlacedRows (now («slot_row» .entry)) (now («slot_cell» .entry)) (now («row_slot» .entry)) (now (rows .entry)) place (now («slot_row» .exit)) (now («slot_cell» .exit)) (now («row_slot» .exit)) ⌝ }
+    requires { ⌜ PlaceAsks (now «slot_row») (now «slot_cell») (now «row_slot») (now full) (now rows) place ⌝ }
+    ensures { λ _. ⌜ PlacedRows (now («slot_row» .entry)) (now («slot_cell» .entry)) (now («row_slot» .entry)) (now (rows .entry)) place (now («slot_row» .exit)) (now («slot_cell» .exit)) (now («row_slot» .exit)) (now (full .exit)) ⌝ }
 {
     let mut start = 0;
     let mut i = 0;
     while i < rows.len() {
         let row = get32(rows, i);
-        let slot = next_free(slot_row, start);
+        let slot = lowest_free(slot_row, full, start);
         put32(slot_row, slot, row + 1);
         put32(slot_cell, slot, place);
         put32(row_slot, row, slot + 1);
@@ -132,13 +75,14 @@ pub fn place_outline(
     prev: &mut [u32],
     next: &mut [u32],
     row_slot: &mut [u32],
+    full: &mut [u32],
     rows: &[u32],
     place: usize,
 )
-    requires { ⌜ OutlineAsks (now «slot_row») (now «slot_cell») (now prev) (now next) (now «row_slot») (now rows) place ⌝ }
-    ensures { λ _. ⌜ OutlinePlaced (now («slot_row» .entry)) (now («slot_cell» .entry)) (now (prev .entry)) (now (next .entry)) (now («row_slot» .entry)) (now (rows .entry)) place (now («slot_row» .exit)) (now («slot_cell» .exit)) (now (prev .exit)) (now (next .exit)) (now («row_slot» .exit)) ⌝ }
+    requires { ⌜ OutlineAsks (now «slot_row») (now «slot_cell») (now prev) (now next) (now «row_slot») (now full) (now rows) place ⌝ }
+    ensures { λ _. ⌜ OutlinePlaced (now («slot_row» .entry)) (now («slot_cell» .entry)) (now (prev .entry)) (now (next .entry)) (now («row_slot» .entry)) (now (rows .entry)) place (now («slot_row» .exit)) (now («slot_cell» .exit)) (now (prev .exit)) (now (next .exit)) (now («row_slot» .exit)) (now (full .exit)) ⌝ }
 {
-    place_rows(slot_row, slot_cell, row_slot, rows, place);
+    place_rows(slot_row, slot_cell, row_slot, full, rows, place);
     link_rows(prev, next, row_slot, rows);
 }
 

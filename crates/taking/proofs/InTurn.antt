@@ -6,10 +6,10 @@
 use mathlib.Core.Path.{_≡_, refl, sym, _∙_, ap, subst}
 use mathlib.Core.Bool.{Bool, true, false, not}
 use mathlib.Core.List.{List, [], _∷_, _++_, append-assoc}
-use Prim.Native.Nat.{ℕ, suc, _+_, _≤_, _<_}
+use Prim.Native.Nat.{ℕ, suc, _+_, _/_, _≤_, _<_}
 use native.Mathlib.Numerals.{add-one}
 use native.Mathlib.Omega.{arith}
-use lib.ListN.{length, drop, drop-of-length-le}
+use lib.ListN.{length, drop, drop-of-length-le, replicate, length-replicate, getD-replicate}
 use lib.Seq.{drop-cons}
 use Rattle.scope.specs.declared.Verdict.{Verdict}
 use Rattle.scope.specs.declared.Verdict.the-variants.{Accepted, Refused}
@@ -26,6 +26,7 @@ use Rattle.scope.proofs.CellOffers.{offers-in-turn}
 use Rattle.scope.proofs.Sound.{Sound, state-sound, Offered}
 use Rattle.scope.proofs.Taking.{taken-mode, taken-room, taken-cells}
 use Rattle.scope.proofs.TakingRules.{taken-sound}
+use Rattle.arcs.specs.Search.{Flags}
 use Rattle.arcs.specs.Place.{freeIn}
 use Rattle.taking.specs.declared.take.Taken.{Taken}
 use Rattle.taking.specs.Taking.{TakeAsks, Takes, ListAsks, ScratchAsks, TakesAll}
@@ -58,18 +59,36 @@ module _ (t : Table) (m : Memory) (x : ℕ) (xs : List ℕ) {v : Verdict} {m′ 
       stays Accepted e = cc
       stays (Refused number index) e = refl
 
-pub record InTurn (t : Table) (m₀ : Memory) (cs : List ℕ) (m : Memory) (rows : List ℕ) (free i : ℕ) : Type 0 where
+pub record InTurn (t : Table) (m₀ : Memory) (cs : List ℕ) (m : Memory) (rows full : List ℕ) (free i : ℕ) : Type 0 where
   pub within : i ≤ length cs
   pub asks : ListAsks t m (drop i cs)
   pub same : offeringAll t m₀ cs ≡ offeringAll t m (drop i cs)
   pub free-count : free ≡ length (freeSlots m)
+  pub flags : Flags full (m .slotRow)
+  pub long-full : length full ≡ 256
   pub room : rowCount t ≤ length rows
   pub sized : Sized m₀ m
 
-pub turn-start : {t : Table} {m : Memory} {cs rows : List ℕ} {free : ℕ} → ScratchAsks t m rows cs → free ≡ length (freeSlots m) → InTurn t m cs m rows free 0
-turn-start {m = m} A e = record { within = omega arith; asks = A .asks; same = refl; free-count = e; room = A .room; sized = sized-refl m }
+-- no block is flagged at first
+no-flags : {t : Table} {m : Memory} → Sound t m → Flags (replicate 256 0) (m .slotRow)
+no-flags S =
+    let l = length-replicate {A = ℕ} 256 0 in
+    let most = S .lengths .most-slots in
+    record { room = omega arith; few = omega arith; unset = λ s h e. getD-replicate {A = ℕ} 256 (s / 256) 0 0 (omega arith) }
 
-module _ {t : Table} {m₀ m : Memory} {cs rows : List ℕ} {free i : ℕ} (I : InTurn t m₀ cs m rows free i) where
+pub turn-start : {t : Table} {m : Memory} {cs rows : List ℕ} {free : ℕ} → ScratchAsks t m rows cs → free ≡ length (freeSlots m) → InTurn t m cs m rows (replicate 256 0) free 0
+turn-start {m = m} A e = record {
+  within = omega arith;
+  asks = A .asks;
+  same = refl;
+  free-count = e;
+  flags = no-flags (A .asks .sound);
+  long-full = length-replicate {A = ℕ} 256 0;
+  room = A .room;
+  sized = sized-refl m;
+}
+
+module _ {t : Table} {m₀ m : Memory} {cs rows full : List ℕ} {free i : ℕ} (I : InTurn t m₀ cs m rows full free i) where
   pub turn-end : length cs ≤ i → TakesAll t m₀ cs Accepted m
   unfolding offeringAll
   turn-end h = record { done = sym (I .same ∙ ap (offeringAll t m) (drop-of-length-le cs {i = i} h)); sound = λ _. I .asks .sound }
@@ -82,10 +101,10 @@ module _ {t : Table} {m₀ m : Memory} {cs rows : List ℕ} {free i : ℕ} (I : 
     in-list = offers-in-turn (keptMode m) (targetOf t) (places m) (heldCells m) (at cs i) (drop (suc i) cs)
         (subst (λ (l : List ℕ). listVerdict (keptMode m) (targetOf t) (places m) (heldCells m ++ l) ≡ Accepted) next (I .asks .list))
 
-    pub turn-asks : TakeAsks t m rows (at cs i) free
-    turn-asks = record { sound = I .asks .sound; cell = in-list .1; free-count = I .free-count; room = I .room }
+    pub turn-asks : TakeAsks t m rows full (at cs i) free
+    turn-asks = record { sound = I .asks .sound; cell = in-list .1; free-count = I .free-count; flags = I .flags; room = I .room }
 
-    module _ {r : Taken} {m′ : Memory} (T : Takes t m (at cs i) r m′) where
+    module _ {r : Taken} {m′ : Memory} {full′ : List ℕ} (T : Takes t m (at cs i) r m′ full′) where
       done : record { answer = r .verdict; left = m′ } ≡ offering t m (at cs i)
       done = T .done ∙ offering-is (I .asks .sound) (at cs i) (in-list .1)
 
@@ -109,12 +128,14 @@ module _ {t : Table} {m₀ m : Memory} {cs rows : List ℕ} {free i : ℕ} (I : 
         list-now = rw (taken-mode offered-now, taken-room offered-now, taken-cells offered-now, append-assoc)
             (subst (λ (l : List ℕ). listVerdict (keptMode m) (targetOf t) (places m) (heldCells m ++ l) ≡ Accepted) next (I .asks .list))
 
-        pub turn-on : {rows′ : List ℕ} → length rows′ ≡ length rows → Sized m m′ → InTurn t m₀ cs m′ rows′ (r .free) (i + 1)
-        turn-on k z = record {
+        pub turn-on : {rows′ : List ℕ} → length rows′ ≡ length rows → length full′ ≡ length full → Sized m m′ → InTurn t m₀ cs m′ rows′ full′ (r .free) (i + 1)
+        turn-on k f z = record {
           within = omega arith;
           asks = rw (add-one i) (subst (λ (l : Memory). ListAsks t l (drop (suc i) cs)) (sym taken-left) (record { sound = taken-sound offered-now; list = list-now }));
           same = rw (add-one i) (I .same ∙ ap (offeringAll t m) next ∙ all-on t m (at cs i) (drop (suc i) cs) done e);
           free-count = T .free-count;
+          flags = T .flags;
+          long-full = f ∙ I .long-full;
           room = omega (arith, I .room, k);
           sized = sized-on (I .sized) z;
         }

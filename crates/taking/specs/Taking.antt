@@ -15,6 +15,7 @@ use Rattle.scope.specs.Memory.{Memory, keptMode, heldCells, places}
 use Rattle.scope.specs.Pool.{freeSlots, outlineVerdict, taking}
 use Rattle.scope.specs.Calls.{Outcome, outcome, offeringAll}
 use Rattle.scope.proofs.Sound.{Sound}
+use Rattle.arcs.specs.Search.{Flags}
 use Rattle.taking.specs.declared.outline.Outlined.{Outlined}
 use Rattle.taking.specs.declared.take.Taken.{Taken}
 
@@ -22,17 +23,19 @@ use Rattle.taking.specs.declared.take.Taken.{Taken}
 unfoldable pub outlineAnswer : Outlined → ℕ → ℕ → Verdict
 outlineAnswer o held free = require (not (o .absent)) 5 held ▷ require (not (o .twice)) 6 held ▷ require (leb (o .count) free) 7 held
 
--- The state is sound and passes 2, 3, 4, 3, 8 for the cell; so many slots are free; there is room for an outline's rows.
-pub record TakeAsks (t : Table) (m : Memory) (rows : List ℕ) (x free : ℕ) : Type 0 where
+-- The state is sound and passes 2, 3, 4, 3, 8 for the cell; so many slots are free, and none in flagged blocks; there is room for an outline's rows.
+pub record TakeAsks (t : Table) (m : Memory) (rows full : List ℕ) (x free : ℕ) : Type 0 where
   pub sound : Sound t m
   pub cell : cellVerdict (keptMode m) (targetOf t) (places m) (heldCells m) x ≡ Accepted
   pub free-count : free ≡ length (freeSlots m)
+  pub flags : Flags full (m .slotRow)
   pub room : rowCount t ≤ length rows
 
--- Refused by 5, 6 or 7, or with one more cell; and how many slots are free then.
-pub record Takes (t : Table) (m : Memory) (x : ℕ) (r : Taken) (m′ : Memory) : Type 0 where
+-- Refused by 5, 6 or 7, or with one more cell; and how many slots are free then, none of them in flagged blocks.
+pub record Takes (t : Table) (m : Memory) (x : ℕ) (r : Taken) (m′ : Memory) (full′ : List ℕ) : Type 0 where
   pub done : record { answer = r .verdict; left = m′ } ≡ outcome (outlineVerdict t m (outlineRows t x)) (taking t m x) m
   pub free-count : r .free ≡ length (freeSlots m′)
+  pub flags : Flags full′ (m′ .slotRow)
 
 -- The state is sound, and its held cells with those of the list pass 2, 3, 4, 3, 8.
 pub record ListAsks (t : Table) (m : Memory) (cs : List ℕ) : Type 0 where

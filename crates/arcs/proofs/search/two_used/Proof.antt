@@ -1,10 +1,10 @@
--- `arcs::place::two_used` meets its contract.
+-- `arcs::search::two_used` meets its contract.
 -- Assumes nothing.
 use borrow.Author.Needs.{needs}
 use mathlib.Core.Path.{refl}
 use Rattle.arcs.proofs.Searching.{two-passed}
-use Rattle.arcs.proofs.place.two_used.Statement.{statement}
-use Rattle.arcs.proofs.place.two_used.Tie as tie
+use Rattle.arcs.proofs.search.two_used.Statement.{statement}
+use Rattle.arcs.proofs.search.two_used.Tie as tie
 
 mul-result : tie.Need-mul-result
 mul-result c = search needs

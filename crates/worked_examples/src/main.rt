@@ -3,6 +3,9 @@
 mod memory;
 mod show;
 
+use desk::Loaded;
+use desk::arrays::text_bytes;
+use desk::load_table;
 use memory::dissolve_cells;
 use memory::row_floats;
 use memory::row_numbers;
@@ -10,10 +13,10 @@ use memory::row_words;
 use memory::slot_numbers;
 use show::show_answer;
 use show::show_title;
-use table_file::read_table;
 ghost use mathlib.Core.Path.{_≡_};
 ghost use Prim.Native.Nat.{_≤_};
 ghost use lib.ListN.{length};
+ghost use Rattle.desk.specs.Loads.{countOf};
 ghost use Rattle.worked_examples.specs.BaseCells.{allOfBase};
 
 // Six hexagons of resolution 9, around the one in their middle.
@@ -67,12 +70,24 @@ fn show_dissolved(edges: &[u64], reverse: &[u32], area: &[f64], list: &[u64], mo
     show_answer(answer, &size);
 }
 
+// A table that cannot be taken has no rows, and every call refuses it by 1.
+fn rows_of(table: Loaded) -> usize
+    ensures { λ r. ⌜ r ≡ countOf table ⌝ }
+{
+    match table {
+        Loaded::Count(rows) => rows,
+        Loaded::Nothing => 0,
+    }
+}
+
 // Dissolves a list of cells over the table of a file, and shows what comes of it.
 fn show_zone(title: &[u8], file: &[u8], list: &[u64], mode: usize) {
     let mut edges = row_words();
     let mut reverse = row_numbers();
     let mut area = row_floats();
-    let rows = read_table(file, &mut edges, &mut reverse, &mut area);
+    let mut text = text_bytes();
+    let table = load_table(file, &mut text, &mut edges, &mut reverse, &mut area);
+    let rows = rows_of(table);
     show_title(title, rows, list.len());
     show_dissolved(&edges[..rows], &reverse[..rows], &area[..rows], list, mode);
 }

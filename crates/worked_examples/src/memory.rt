@@ -4,32 +4,32 @@ ghost use mathlib.Core.Path.{_≡_};
 ghost use Prim.Native.Nat.{_≤_};
 ghost use lib.ListN.{length};
 
-pub fn row_words() -> [u64; 26244]
+pub(crate) fn row_words() -> [u64; 26244]
     ensures { λ r. ⌜ 26244 ≡ length r ⌝ }
 {
     [0; 26244]
 }
 
-pub fn row_numbers() -> [u32; 26244]
+pub(crate) fn row_numbers() -> [u32; 26244]
     ensures { λ r. ⌜ 26244 ≡ length r ⌝ }
 {
     [0; 26244]
 }
 
-pub fn row_floats() -> [f64; 26244]
+pub(crate) fn row_floats() -> [f64; 26244]
     ensures { λ r. ⌜ 26244 ≡ length r ⌝ }
 {
     [0.0; 26244]
 }
 
-pub fn slot_numbers() -> [u32; 13122]
+pub(crate) fn slot_numbers() -> [u32; 13122]
     ensures { λ r. ⌜ 13122 ≡ length r ⌝ }
 {
     [0; 13122]
 }
 
 // Dissolves a list of cells in this memory.
-pub fn dissolve_cells(
+pub(crate) fn dissolve_cells(
     edges: &[u64],
     reverse: &[u32],
     area: &[f64],

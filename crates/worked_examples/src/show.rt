@@ -9,7 +9,7 @@ fn show_number(word: &[u8], number: usize) {
     io::print_decimal(STDOUT_FILENO, number as u64);
 }
 
-pub fn show_title(title: &[u8], rows: usize, cells: usize) {
+pub(crate) fn show_title(title: &[u8], rows: usize, cells: usize) {
     io::write_all(STDOUT_FILENO, title);
     show_number(b": rows ", rows);
     show_number(b", cells ", cells);
@@ -44,7 +44,7 @@ fn show_refusal(number: usize, index: usize) {
     io::write_all(STDOUT_FILENO, b"\n");
 }
 
-pub fn show_answer(answer: ReadOut, size: &[u32]) {
+pub(crate) fn show_answer(answer: ReadOut, size: &[u32]) {
     match answer {
         ReadOut::Nothing => {
             io::write_all(STDOUT_FILENO, b"; nothing\n");

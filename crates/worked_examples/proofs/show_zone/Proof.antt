@@ -1,8 +1,9 @@
--- `worked_examples::show_zone` meets its contract: as many rows are lent as the file had, which are no more than there is room for.
+-- `worked_examples::show_zone` meets its contract: as many rows are lent as were loaded, which are no more than there is room for.
 -- Assumes nothing.
 use native.Mathlib.Omega.{arith}
 use borrow.Author.Needs.{needs}
-use Rattle.table_file.proofs.Parts.{taken}
+use mathlib.Core.Path.{sym}
+use lib.Seq.{length-take-le}
 use Rattle.worked_examples.proofs.show_zone.Statement.{statement}
 use Rattle.worked_examples.proofs.show_zone.Tie as tie
 
@@ -15,17 +16,26 @@ row-numbers-requires c κs = search needs
 row-floats-requires : tie.Need-row-floats-requires
 row-floats-requires c κs = search needs
 
-slice-aggregate-read-table : tie.Need-slice-aggregate-read-table
-slice-aggregate-read-table c = search needs
+text-bytes-requires : tie.Need-text-bytes-requires
+text-bytes-requires c κs = search needs
 
-slice-aggregate-read-table-2 : tie.Need-slice-aggregate-read-table-2
-slice-aggregate-read-table-2 c = search needs
+slice-aggregate-load-table : tie.Need-slice-aggregate-load-table
+slice-aggregate-load-table c = search needs
 
-slice-aggregate-read-table-3 : tie.Need-slice-aggregate-read-table-3
-slice-aggregate-read-table-3 c = search needs
+slice-aggregate-load-table-2 : tie.Need-slice-aggregate-load-table-2
+slice-aggregate-load-table-2 c = search needs
 
-read-table-requires : tie.Need-read-table-requires
-read-table-requires c κs = search needs
+slice-aggregate-load-table-3 : tie.Need-slice-aggregate-load-table-3
+slice-aggregate-load-table-3 c = search needs
+
+slice-aggregate-load-table-4 : tie.Need-slice-aggregate-load-table-4
+slice-aggregate-load-table-4 c = search needs
+
+load-table-requires : tie.Need-load-table-requires
+load-table-requires c κs = search needs
+
+rows-of-requires : tie.Need-rows-of-requires
+rows-of-requires c κs = search needs
 
 show-title-requires : tie.Need-show-title-requires
 show-title-requires c κs = search needs
@@ -34,25 +44,26 @@ array-share-prefix-edges : tie.Need-array-share-prefix-edges
 array-share-prefix-edges c = search needs
 
 slice-aggregate-show-dissolved : tie.Need-slice-aggregate-show-dissolved
-slice-aggregate-show-dissolved c = taken _ _ (let read = c .before .before .before .before .before .read-table in omega (arith, read .ensures .0, read .kept .1 .0))
+slice-aggregate-show-dissolved c = sym (length-take-le _ _ (let load = c .before .before .before .before .before .before .before .load-table in omega (arith, c .before .before .rows-of .ensures, load .ensures .0, load .kept .1 .1 .0)))
 
 array-share-prefix-reverse : tie.Need-array-share-prefix-reverse
 array-share-prefix-reverse c = search needs
 
 slice-aggregate-show-dissolved-2 : tie.Need-slice-aggregate-show-dissolved-2
-slice-aggregate-show-dissolved-2 c = taken _ _ (let read = c .before .before .before .before .before .before .read-table in omega (arith, read .ensures .1, read .kept .1 .1 .0))
+slice-aggregate-show-dissolved-2 c = sym (length-take-le _ _ (let load = c .before .before .before .before .before .before .before .before .load-table in omega (arith, c .before .before .before .rows-of .ensures, load .ensures .1, load .kept .1 .1 .1 .0)))
 
 array-share-prefix-area : tie.Need-array-share-prefix-area
 array-share-prefix-area c = search needs
 
 slice-aggregate-show-dissolved-3 : tie.Need-slice-aggregate-show-dissolved-3
-slice-aggregate-show-dissolved-3 c = taken _ _ (let read = c .before .before .before .before .before .before .before .read-table in omega (arith, read .ensures .2, read .kept .1 .1 .1 .0))
+slice-aggregate-show-dissolved-3 c = sym (length-take-le _ _ (let load = c .before .before .before .before .before .before .before .before .before .load-table in omega (arith, c .before .before .before .before .rows-of .ensures, load .ensures .2, load .kept .1 .1 .1 .1 .0)))
 
 show-dissolved-requires : tie.Need-show-dissolved-requires
 show-dissolved-requires c κs =
-    let read = c .before .before .before .before .before .before .before .read-table in
-    let count = taken (read .result) (read .last .1 .0) (omega (arith, read .ensures .0, read .kept .1 .0)) in
-    omega (arith, count, read .ensures .0, c .before .before .before .before .before .before .before .before .before .before .before .before .before .row-words .ensures)
+    let load = c .before .before .before .before .before .before .before .before .before .load-table in
+    let rows = c .before .before .before .before .rows-of in
+    let count = length-take-le (rows .result) (load .last .1 .1 .0) (omega (arith, rows .ensures, load .ensures .0, load .kept .1 .1 .0)) in
+    omega (arith, count, rows .ensures, load .ensures .0, c .before .before .before .before .before .before .before .before .before .before .before .before .before .before .before .before .before .row-words .ensures)
 
 returns : tie.Need-returns
 returns c = search needs
@@ -64,10 +75,13 @@ show-zone-spec =
     row-words-requires
     row-numbers-requires
     row-floats-requires
-    slice-aggregate-read-table
-    slice-aggregate-read-table-2
-    slice-aggregate-read-table-3
-    read-table-requires
+    text-bytes-requires
+    slice-aggregate-load-table
+    slice-aggregate-load-table-2
+    slice-aggregate-load-table-3
+    slice-aggregate-load-table-4
+    load-table-requires
+    rows-of-requires
     show-title-requires
     array-share-prefix-edges
     slice-aggregate-show-dissolved

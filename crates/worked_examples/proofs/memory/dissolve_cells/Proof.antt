@@ -2,7 +2,8 @@
 -- Assumes nothing.
 use native.Mathlib.Omega.{arith}
 use borrow.Author.Needs.{needs}
-use Rattle.table_file.proofs.Parts.{taken}
+use mathlib.Core.Path.{sym}
+use lib.Seq.{length-take-le}
 use Rattle.worked_examples.proofs.memory.dissolve_cells.Statement.{statement}
 use Rattle.worked_examples.proofs.memory.dissolve_cells.Tie as tie
 
@@ -55,13 +56,13 @@ array-borrow-prefix-row-slot : tie.Need-array-borrow-prefix-row-slot
 array-borrow-prefix-row-slot c = search needs
 
 slice-aggregate-dissolve-10 : tie.Need-slice-aggregate-dissolve-10
-slice-aggregate-dissolve-10 c = taken _ _ (let few = c .before .before .before .before .before .before .before .before .before .before .before .before .before .before .before .before .before .before .before .before .before .before .before .before .before .pre in omega (arith, c .before .before .before .before .before .before .before .before .before .before .before .row-numbers .ensures))
+slice-aggregate-dissolve-10 c = sym (length-take-le _ _ (let few = c .before .before .before .before .before .before .before .before .before .before .before .before .before .before .before .before .before .before .before .before .before .before .before .before .before .pre in omega (arith, c .before .before .before .before .before .before .before .before .before .before .before .row-numbers .ensures)))
 
 array-borrow-prefix-row-mark : tie.Need-array-borrow-prefix-row-mark
 array-borrow-prefix-row-mark c = search needs
 
 slice-aggregate-dissolve-11 : tie.Need-slice-aggregate-dissolve-11
-slice-aggregate-dissolve-11 c = taken _ _ (let few = c .before .before .before .before .before .before .before .before .before .before .before .before .before .before .before .before .before .before .before .before .before .before .before .before .before .before .pre in omega (arith, c .before .before .before .before .before .before .before .before .before .before .before .row-numbers2 .ensures))
+slice-aggregate-dissolve-11 c = sym (length-take-le _ _ (let few = c .before .before .before .before .before .before .before .before .before .before .before .before .before .before .before .before .before .before .before .before .before .before .before .before .before .before .pre in omega (arith, c .before .before .before .before .before .before .before .before .before .before .before .row-numbers2 .ensures)))
 
 dissolve-requires : tie.Need-dissolve-requires
 dissolve-requires c κs = search needs

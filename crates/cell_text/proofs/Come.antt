@@ -3,19 +3,21 @@
 --     come-none                    at the first line
 --     cells-long, numbers-long     a store keeps the length, and so the room: same-room
 --     ended-here, come-all         its ends: where it has come to, and with the text
+--     behind-mark                  the cells of a text are those of what stands behind its mark
 -- Assumes nothing.
-use Prim.Native.Nat.{ℕ, _+_, _≤_, _<_, min}
-use mathlib.Core.Path.{_≡_, refl, sym, _∙_, ap}
+use Prim.Native.Nat.{ℕ, _+_, _-_, _≤_, _<_, min}
+use mathlib.Core.Path.{_≡_, refl, sym, _∙_, ap, subst}
 use mathlib.Core.Bool.{Bool, cond}
 use mathlib.Core.List.{List, [], _++_, append-nil}
 use native.Mathlib.Omega.{arith}
 use borrow.Author.Tests.{le-leb}
-use lib.ListN.{length}
+use lib.ListN.{length, take, drop}
 use lib.Seq.{sets, length-sets}
 use Rattle.cell_text.specs.declared.Ending.{Ending}
 use Rattle.cell_text.specs.declared.Ending.the-variants as ending
 use Rattle.cell_text.specs.declared.Listed.{Listed}
-use Rattle.cell_text.specs.Lines.{lines, Reading, ended, reading, fitted, cellsOf, Stored}
+use Rattle.cell_text.specs.Lines.{lines, Reading, ended, reading, fitted, cellsIn, markOf, cellsOf, Stored}
+use Rattle.cell_text.proofs.Pieces.{tail}
 use Rattle.cell_text.proofs.LinesLeft.{left, left-none}
 
 -- what was found before, and the rest
@@ -62,12 +64,12 @@ module _ {text cells₀ numbers₀ : List ℕ} {room : ℕ} {cells numbers : Lis
 
 -- a reading that ends where it has come to
 pub ended-here : {text cells₀ numbers₀ : List ℕ} {room : ℕ} {cells numbers : List ℕ} {a number count : ℕ} (C : Come text cells₀ numbers₀ room cells numbers a number count) (e : Ending)
-    → reading 1 (lines text) ≡ behind (C .found) (C .places) (ended e) → Stored (cellsOf room text) cells₀ numbers₀ (record { count = count; ending = e }) cells numbers
-unfolding cellsOf fitted
+    → reading 1 (lines text) ≡ behind (C .found) (C .places) (ended e) → Stored (cellsIn room text) cells₀ numbers₀ (record { count = count; ending = e }) cells numbers
+unfolding cellsIn fitted
 ended-here {text} {cells₀} {numbers₀} {room} C e r =
     let m = C .found-long in let f = C .fits in
     let c = append-nil (C .found) in let k = append-nil (C .places) in
-    let s : cellsOf room text ≡ behind (C .found) (C .places) (ended e)
+    let s : cellsIn room text ≡ behind (C .found) (C .places) (ended e)
     = ap (fitted room) r ∙ rw (le-leb (length (C .found ++ [])) room (rw c (omega arith))) refl in
     record {
       count = sym (ap (λ (r : Reading). length (r .cells)) s ∙ ap length c ∙ m);
@@ -77,6 +79,12 @@ ended-here {text} {cells₀} {numbers₀} {room} C e r =
     }
 
 pub come-all : {text cells₀ numbers₀ : List ℕ} {room : ℕ} {cells numbers : List ℕ} {a number count : ℕ} → Come text cells₀ numbers₀ room cells numbers a number count → length text < a
-    → Stored (cellsOf room text) cells₀ numbers₀ (record { count = count; ending = ending.Whole }) cells numbers
+    → Stored (cellsIn room text) cells₀ numbers₀ (record { count = count; ending = ending.Whole }) cells numbers
 unfolding reading
 come-all {text} {a = a} {number = number} C h = ended-here C ending.Whole (C .whole ∙ ap (λ (l : List (List ℕ)). behind (C .found) (C .places) (reading number l)) (left-none text a h))
+
+pub behind-mark : (text : List ℕ) (room : ℕ) {mark : ℕ} {cells numbers : List ℕ} {answer : Listed} {cells′ numbers′ : List ℕ} → mark ≡ markOf text
+    → Stored (cellsIn room (take (length text - mark) (drop mark text))) cells numbers answer cells′ numbers′ → Stored (cellsOf room text) cells numbers answer cells′ numbers′
+unfolding cellsOf
+behind-mark text room {mark} {cells} {numbers} {answer} {cells′} {numbers′} e S =
+    subst (λ (s : List ℕ). Stored (cellsIn room s) cells numbers answer cells′ numbers′) (tail mark text ∙ ap (λ (k : ℕ). drop k text) e) S

@@ -21,7 +21,7 @@ use Rattle.cell_text.specs.declared.Line.the-variants as line
 use Rattle.cell_text.specs.declared.Ending.the-variants as ending
 use Rattle.cell_text.specs.declared.Next.{Next}
 use Rattle.cell_text.specs.declared.Listed.{Listed}
-use Rattle.cell_text.specs.Lines.{lines, Reading, andLine, reading, fitted, cellsOf, isWhole, listedBy, storedBy, Stored, NextLine, Took}
+use Rattle.cell_text.specs.Lines.{lines, Reading, andLine, reading, fitted, cellsIn, isWhole, listedBy, storedBy, Stored, NextLine, Took}
 use Rattle.cell_text.proofs.LinesLeft.{line-size, left, left-next}
 use Rattle.cell_text.proofs.Come.{Come, behind, ended-here}
 use Rattle.cell_text.proofs.LineTaken.{took-cell}
@@ -83,16 +83,16 @@ module _ {text cells₀ numbers₀ : List ℕ} {room : ℕ} {cells numbers : Lis
             ∙ ap (λ (l : List ℕ). record { cells = (C .found ++ (x ∷ [])) ++ rest .cells; numbers = l; end = rest .end }) (sym (append-assoc (C .places) (number ∷ []) (rest .numbers)));
       }
 
-  pub come-fault : {place : ℕ} → next .line ≡ line.Fault place → Stored (cellsOf room text) cells₀ numbers₀ (record { count = count; ending = ending.Fault number place }) cells numbers
+  pub come-fault : {place : ℕ} → next .line ≡ line.Fault place → Stored (cellsIn room text) cells₀ numbers₀ (record { count = count; ending = ending.Fault number place }) cells numbers
   come-fault {place} e = ended-here C _ (read-next e)
 
-  pub come-full : {x : ℕ} → next .line ≡ line.Cell x → count ≡ room → Stored (cellsOf room text) cells₀ numbers₀ (record { count = count; ending = ending.TooMany number }) cells numbers
-  unfolding cellsOf fitted
+  pub come-full : {x : ℕ} → next .line ≡ line.Cell x → count ≡ room → Stored (cellsIn room text) cells₀ numbers₀ (record { count = count; ending = ending.TooMany number }) cells numbers
+  unfolding cellsIn fitted
   come-full {x} e full =
       let m = C .found-long in let n = C .places-long in
       let r = read-next e in
       let long : room < length (C .found ++ (x ∷ rest .cells)) = rw length-append (omega arith) in
-      let s : cellsOf room text ≡ record { cells = take room (C .found ++ (x ∷ rest .cells)); numbers = take room (C .places ++ (number ∷ rest .numbers)); end = ending.TooMany (at (C .places ++ (number ∷ rest .numbers)) room) }
+      let s : cellsIn room text ≡ record { cells = take room (C .found ++ (x ∷ rest .cells)); numbers = take room (C .places ++ (number ∷ rest .numbers)); end = ending.TooMany (at (C .places ++ (number ∷ rest .numbers)) room) }
       = ap (fitted room) r ∙ rw (lt-leb (length (C .found ++ (x ∷ rest .cells))) room long) refl in
       let c : take room (C .found ++ (x ∷ rest .cells)) ≡ C .found = take-at (C .found) (x ∷ rest .cells) room (m ∙ full) in
       let k : take room (C .places ++ (number ∷ rest .numbers)) ≡ C .places = take-at (C .places) (number ∷ rest .numbers) room (n ∙ full) in
@@ -116,7 +116,7 @@ module _ {text cells₀ numbers₀ : List ℕ} {room : ℕ} {cells numbers : Lis
     come-goes (line.Fault place) e T w = absurd (clash w (ap (λ (a : Listed). isWhole (a .ending)) (T .listed)))
 
     pub come-ends : (l : Line) → next .line ≡ l → Took room′ l number count cells numbers answer cells′ numbers′ → isWhole (answer .ending) ≡ false
-        → Stored (cellsOf room text) cells₀ numbers₀ answer cells′ numbers′
+        → Stored (cellsIn room text) cells₀ numbers₀ answer cells′ numbers′
     unfolding listedBy storedBy
     come-ends line.Passed e T w = absurd (clash (ap (λ (a : Listed). isWhole (a .ending)) (T .listed)) w)
     come-ends (line.Cell x) e T w = ⊎-elim

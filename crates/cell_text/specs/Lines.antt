@@ -2,7 +2,7 @@
 -- Assumes nothing.
 use Prim.Native.Nat.{ℕ, suc, _+_, _≤_}
 use mathlib.Core.Path.{_≡_}
-use mathlib.Core.Bool.{Bool, true, false, cond}
+use mathlib.Core.Bool.{Bool, true, false, _&&_, cond}
 use mathlib.Core.List.{List, [], _∷_}
 use lib.Dec.{eqb, leb, ltb}
 use lib.ListN.{length, take, drop, set}
@@ -60,8 +60,20 @@ fitted room r =
     cond (leb (length (r .cells)) room) r
     (record { cells = take room (r .cells); numbers = take room (r .numbers); end = ending.TooMany (at (r .numbers) room) })
 
+unfoldable pub cellsIn : ℕ → List ℕ → Reading
+cellsIn room s = fitted room (reading 1 (lines s))
+
+-- ---- a text
+
+-- A byte order mark, EF BB BF, may stand in front. It is passed over, and the bytes of line 1 are counted behind it.
+unfoldable pub markOf : List ℕ → ℕ
+markOf text = cond (leb 3 (length text) && eqb (at text 0) 0xef && eqb (at text 1) 0xbb && eqb (at text 2) 0xbf) 3 0
+
+abbrev pub withoutMark : List ℕ → List ℕ
+withoutMark text = drop (markOf text) text
+
 unfoldable pub cellsOf : ℕ → List ℕ → Reading
-cellsOf room text = fitted room (reading 1 (lines text))
+cellsOf room text = cellsIn room (withoutMark text)
 
 -- ---- what the functions promise
 

@@ -1,15 +1,16 @@
-// A cell list as text: one cell a line in hexadecimal, with or without 0x; blank lines and # comments are passed over.
+// A cell list as text: one cell a line in hexadecimal, with or without 0x; blank lines, # comments and a byte order mark in front are passed over.
 // The cells go into a lent slice, with the line of each beside it; a line that is none of these is named with its place.
 mod words;
 
 use words::Kind;
+use words::byte_at;
 use words::leading;
 use words::read_line;
 ghost use mathlib.Core.Path.{_≡_};
 ghost use Prim.Native.Nat.{_≤_, min};
 ghost use lib.ListN.{length};
 ghost use lib.Seq.{sets};
-ghost use Rattle.cell_text.specs.Lines.{cellsOf, isWhole, Stored, NextLine, Took};
+ghost use Rattle.cell_text.specs.Lines.{cellsIn, markOf, cellsOf, isWhole, Stored, NextLine, Took};
 
 // What a line holds: nothing to take, a cell, or a fault at a place.
 pub enum Line {
@@ -114,9 +115,9 @@ fn take_line(
     }
 }
 
-// The cells of a text, in their order, and the line of each, up to the first fault.
-pub fn read_cells(text: &[u8], cells: &mut [u64], numbers: &mut [usize]) -> Listed
-    ensures { λ r. ⌜ Stored (cellsOf (min (length (now (cells .entry))) (length (now (numbers .entry)))) (now (text .entry))) (now (cells .entry)) (now (numbers .entry)) r (now (cells .exit)) (now (numbers .exit)) ⌝ }
+// The cells of lines, in their order, and the line of each, up to the first fault.
+fn read_lines(text: &[u8], cells: &mut [u64], numbers: &mut [usize]) -> Listed
+    ensures { λ r. ⌜ Stored (cellsIn (min (length (now (cells .entry))) (length (now (numbers .entry)))) (now (text .entry))) (now (cells .entry)) (now (numbers .entry)) r (now (cells .exit)) (now (numbers .exit)) ⌝ }
 {
     let mut at: usize = 0;
     let mut number: usize = 1;
@@ -137,4 +138,26 @@ pub fn read_cells(text: &[u8], cells: &mut [u64], numbers: &mut [usize]) -> List
         count,
         ending: Ending::Whole,
     }
+}
+
+// How many bytes the byte order mark has that some editors put in front of a text.
+fn mark_of(text: &[u8]) -> usize
+    ensures { λ r. ⌜ (r ≡ markOf (now (text .entry))) × (r ≤ length (now (text .entry))) ⌝ }
+{
+    if (3 <= text.len())
+        & (byte_at(text, 0) == 0xef)
+        & (byte_at(text, 1) == 0xbb)
+        & (byte_at(text, 2) == 0xbf)
+    {
+        return 3;
+    }
+    0
+}
+
+// The cells of a text, in their order, and the line of each, up to the first fault.
+pub fn read_cells(text: &[u8], cells: &mut [u64], numbers: &mut [usize]) -> Listed
+    ensures { λ r. ⌜ Stored (cellsOf (min (length (now (cells .entry))) (length (now (numbers .entry)))) (now (text .entry))) (now (cells .entry)) (now (numbers .entry)) r (now (cells .exit)) (now (numbers .exit)) ⌝ }
+{
+    let mark = mark_of(text);
+    read_lines(&text[mark..], cells, numbers)
 }

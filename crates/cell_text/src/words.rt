@@ -66,7 +66,7 @@ fn blanks_after(s: &[u8]) -> usize
 }
 
 // The byte at place i, 0 past the end.
-fn byte_at(s: &[u8], i: usize) -> u8
+pub fn byte_at(s: &[u8], i: usize) -> u8
     ensures { λ r. ⌜ r ≡ at (now (s .entry)) i ⌝ }
 {
     if i < s.len() { s[i] } else { 0 }

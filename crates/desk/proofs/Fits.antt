@@ -17,7 +17,7 @@ use Rattle.scope.specs.Table.{Table}
 use Rattle.scope.specs.Bytes.{rowsIn}
 use Rattle.scope.proofs.Tests.{either}
 use Rattle.cell_text.specs.declared.Listed.{Listed}
-use Rattle.cell_text.specs.Lines.{Reading, lines, reading, fitted, cellsOf, Stored}
+use Rattle.cell_text.specs.Lines.{Reading, lines, reading, fitted, cellsIn, withoutMark, cellsOf, Stored}
 use Rattle.table_bytes.specs.declared.TableFile.{TableFile}
 use Rattle.table_bytes.specs.declared.TableFile.the-variants as file
 use Rattle.table_bytes.specs.Files.{fileOf, roomOf, TableRead}
@@ -64,8 +64,8 @@ few-cells room r = ⊎-elim
 
 pub cells-within : (a b : ℕ) (text : List ℕ) {cells numbers : List ℕ} {answer : Listed} {cells′ numbers′ : List ℕ}
     → Stored (cellsOf (min a b) text) cells numbers answer cells′ numbers′ → (answer .count ≤ a) × (answer .count ≤ b)
-unfolding cellsOf
+unfolding cellsOf cellsIn
 cells-within a b text S =
-    let c = S .count in let f = few-cells (min a b) (reading 1 (lines text)) in
+    let c = S .count in let f = few-cells (min a b) (reading 1 (lines (withoutMark text))) in
     let p = min-le-left a b in let q = min-le-right a b in
     (omega arith, omega arith)

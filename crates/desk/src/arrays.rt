@@ -94,7 +94,8 @@ pub fn feed_lines() -> [usize; 65536]
     [0; 65536]
 }
 
-// The bytes of a file, and then of a report. A table of 65,536 rows has as many, and no report on a real table has more.
+// The bytes of a file, and then of a report. A table of 65,536 rows has as many, and no report on a real table has more. A text that just
+// fits cannot be told from one cut off, and is not printed: for a report the room is one byte less.
 pub fn text_bytes() -> [u8; 1310720]
     ensures { λ r. ⌜ 1310720 ≡ length r ⌝ }
 {

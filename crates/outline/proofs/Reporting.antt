@@ -1,0 +1,34 @@
+-- A zone reported.
+--     reported        what was dissolved and then written is what `report_zone` promises
+--     reported-one    its promise allows one outcome: the text, the outputs, and what is answered
+-- Assumes nothing.
+use Prim.Native.Nat.{ℕ}
+use mathlib.Core.Path.{_≡_, refl, sym, _∙_, ap, subst}
+use mathlib.Core.Bool.{Bool}
+use mathlib.Core.List.{List}
+use lib.Ieee.{Float}
+use Rattle.scope.specs.declared.ReadOut.{ReadOut}
+use Rattle.scope.specs.Answers.{verdictOf, isAccepted}
+use Rattle.scope.specs.Memory.{Output, output}
+use Rattle.text.specs.Text.{Wrote}
+use Rattle.report.specs.Answers.{outlineText}
+use Rattle.desk.specs.declared.words.Report.{Report}
+use Rattle.full_size.specs.Drawing.{Drawn}
+use Rattle.outline.specs.Zones.{Reported}
+
+module _ {table list lines edges : List ℕ} {byRow : Bool} {d : Drawn} {answer : ReadOut} {start size group : List ℕ} {area : List Float} {rows : List ℕ} where
+  pub reported : record { answer = answer; out = output start size group area rows } ≡ d
+      → {before after : List ℕ} {end : ℕ} → Wrote before 0 after end (outlineText table list lines edges byRow answer start size group area rows)
+      → {done : Bool} → done ≡ isAccepted (verdictOf answer)
+      → Reported table list lines edges byRow d before after (output start size group area rows) (record { size = end; done = done })
+  reported e {before} {after} {end} W {done} q =
+      subst (λ (x : Drawn). Reported table list lines edges byRow x before after (output start size group area rows) (record { size = end; done = done })) e (record { text = W; outputs = refl; answers = q })
+
+same-report : (r r′ : Report) → r .size ≡ r′ .size → r .done ≡ r′ .done → r ≡ r′
+same-report r r′ e f = ap (λ (n : ℕ). record { size = n; done = r .done }) e ∙ ap (λ (b : Bool). record { size = r′ .size; done = b }) f
+
+pub reported-one : (table list lines edges : List ℕ) (byRow : Bool) (d : Drawn) (before : List ℕ) {after after′ : List ℕ} {o o′ : Output} {r r′ : Report}
+    → Reported table list lines edges byRow d before after o r → Reported table list lines edges byRow d before after′ o′ r′
+    → (after ≡ after′) × (o ≡ o′) × (r ≡ r′)
+reported-one table list lines edges byRow d before {r = r} {r′ = r′} p q =
+    (p .text .bytes ∙ sym (q .text .bytes), p .outputs ∙ sym (q .outputs), same-report r r′ (p .text .place ∙ sym (q .text .place)) (p .answers ∙ sym (q .answers)))

@@ -1,0 +1,2 @@
+-- What is printed of a list of cells, dissolved.
+pub mod Zones

@@ -6,6 +6,7 @@ use crate::rows_below;
 use index::is_pentagon;
 use index::resolution;
 use slices::at32;
+use slices::get32;
 ghost use mathlib.Core.Path.{_≡_};
 ghost use mathlib.Core.Bool.{true, false};
 ghost use Prim.Native.Nat.{_^_, _<_, _≤_};
@@ -68,13 +69,15 @@ fn terms_finite(area: &[f64]) -> bool
 
 // The reverse of row `i` is in the second half and names row `i` back.
 fn crosses_at(reverse: &[u32], half: usize, i: usize) -> bool
+    requires { ⌜ i < length (now reverse) ⌝ }
     ensures { λ b. ⌜ b ≡ crosses half (now (reverse .entry)) i ⌝ }
 {
-    let back = at32(reverse, i);
+    let back = get32(reverse, i);
     (half <= back) & (back < reverse.len()) & (at32(reverse, back) == i)
 }
 
 fn halves_cross(reverse: &[u32], half: usize) -> bool
+    requires { ⌜ half ≤ length (now reverse) ⌝ }
     ensures { λ b. ⌜ b ≡ passes (crosses half (now (reverse .entry))) half ⌝ }
 {
     let mut i: usize = 0;

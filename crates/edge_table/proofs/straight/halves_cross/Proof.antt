@@ -18,7 +18,7 @@ loop-holds : tie.Need-loop-holds Inv-loop μ-loop
 loop-holds c = going-start
 
 crosses-at-requires : tie.Need-crosses-at-requires Inv-loop μ-loop
-crosses-at-requires c κs = tt
+crosses-at-requires c κs = omega arith
 
 returns : tie.Need-returns Inv-loop μ-loop
 returns c = going-false (c .before .before .before .loop .inv) (c .before .before .loop-test .taken) (fails (c .before .crosses-at .ensures) (c .if1 .taken))

@@ -1,5 +1,6 @@
 -- `edge_table::straight::rows_paired` meets its contract.
 -- Assumes nothing.
+use native.Mathlib.Omega.{arith}
 use borrow.Author.Needs.{needs}
 use Prim.Native.Nat.{_*_, _/_}
 use mathlib.Core.Path.{sym, _∙_}
@@ -15,7 +16,7 @@ mul-if1 : tie.Need-mul-if1
 mul-if1 c = search needs
 
 halves-cross-requires : tie.Need-halves-cross-requires
-halves-cross-requires c κs = search needs
+halves-cross-requires c κs = omega arith
 
 returns : tie.Need-returns
 returns c =

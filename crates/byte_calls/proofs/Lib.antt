@@ -1,4 +1,2 @@
-pub mod Outputs
 pub mod Calling
-pub mod Rooms
-pub mod Determined
+pub mod Limits

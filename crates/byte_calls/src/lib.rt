@@ -1,5 +1,84 @@
-// Both ways in on bytes, with a slice lent for each column: decode, one call of the core, encode.
-// Crate host declares these slices as local arrays.
-pub mod dissolving;
-pub mod fits;
-pub mod standing;
+// Both ways in on bytes, for small tables: the host's limits tested, and the call made within them. The formats are those of scope's Bytes.
+use byte_change::change_within;
+use byte_dissolve::dissolve_within;
+use byte_limits::fits::dissolve_fits;
+use byte_limits::fits::standing_fits;
+use byte_read::read_within;
+use scope::Verdict;
+use wire::numbers::result;
+ghost use mathlib.Core.Path.{_≡_};
+ghost use mathlib.Core.List.{[]};
+ghost use Rattle.scope.specs.Bytes.{rowsIn, tableIn, stateIn, calling, zoneDissolving, zoneStanding};
+ghost use Rattle.byte_limits.specs.Within.{StandingWithin};
+
+// Dissolves a list of cells.
+pub fn dissolve(
+    table: &[u8],
+    cells: &[u8],
+    out: &mut [u8],
+    mode: u32,
+    slots: u32,
+    places: u32,
+) -> u64
+    ensures { λ r. ⌜ record { result = r; state = []; out = now (out .exit) } ≡ zoneDissolving (now (table .entry)) (now (cells .entry)) (now (out .entry)) mode slots places ⌝ }
+{
+    if !dissolve_fits(table, cells, slots, places) {
+        return result(Verdict::Refused(10, 0));
+    }
+    dissolve_within(
+        table,
+        cells,
+        out,
+        mode as usize,
+        slots as usize,
+        places as usize,
+    )
+}
+
+// The call of this number on a standing state within the limits.
+fn call_within(
+    table: &[u8],
+    state: &mut [u8],
+    out: &mut [u8],
+    slots: usize,
+    places: usize,
+    call: u32,
+    value: u64,
+) -> u64
+    requires { ⌜ StandingWithin (now table) (now state) slots places ⌝ }
+    ensures { λ r. ⌜ record { result = r; state = now (state .exit); out = now (out .exit) } ≡ calling (tableIn (now (table .entry))) (stateIn (rowsIn (now (table .entry))) slots places (now (state .entry))) (now (state .entry)) (now (out .entry)) call value ⌝ }
+{
+    if call < 2 {
+        return change_within(table, state, slots, places, call, value);
+    }
+    if call == 2 {
+        return read_within(table, state, out, slots, places);
+    }
+    result(Verdict::Refused(10, 0))
+}
+
+// Opens (call 0), offers to (1) or reads out (2) a standing state; `value` is the mode or the cell.
+pub fn standing(
+    table: &[u8],
+    state: &mut [u8],
+    out: &mut [u8],
+    slots: u32,
+    places: u32,
+    call: u32,
+    value: u64,
+) -> u64
+    ensures { λ r. ⌜ record { result = r; state = now (state .exit); out = now (out .exit) } ≡ zoneStanding (now (table .entry)) (now (state .entry)) (now (out .entry)) slots places call value ⌝ }
+{
+    if !standing_fits(table, state, slots, places) {
+        return result(Verdict::Refused(10, 0));
+    }
+    call_within(
+        table,
+        state,
+        out,
+        slots as usize,
+        places as usize,
+        call,
+        value,
+    )
+}

@@ -4,5 +4,3 @@ pub mod Determined
 pub mod Results
 pub mod Enough
 pub mod EnoughSlots
-pub mod Arrays
-pub mod Limits

@@ -1,9 +1,8 @@
 -- A refusal of the calls has a number of at most 10, so that a result fits its 64 bits.
---     low                                                 of a verdict that is such a one
 --     open-low, offer-low, read-out-low, dissolve-low     of what a call answered
 -- Assumes nothing.
 use Prim.Native.Nat.{ℕ, _≤_}
-use mathlib.Core.Path.{_≡_, sym, ap, subst}
+use mathlib.Core.Path.{_≡_, ap}
 use mathlib.Core.List.{List}
 use Rattle.scope.specs.declared.Verdict.{Verdict}
 use Rattle.scope.specs.declared.ReadOut.{ReadOut}
@@ -12,9 +11,7 @@ use Rattle.scope.specs.Table.{Table}
 use Rattle.scope.specs.Memory.{Memory, Output}
 use Rattle.scope.specs.Calls.{Outcome, Reading, openVerdict, opening, offerVerdict, offering, readingOut, dissolving}
 use Rattle.scope.proofs.Numbered.{number-most, open-numbered, offer-numbered, read-numbered, dissolve-numbered}
-
-pub low : {v w : Verdict} → v ≡ w → refusalOf w ≤ 10 → refusalOf v ≤ 10
-low e h = subst (λ (x : Verdict). refusalOf x ≤ 10) (sym e) h
+use Rattle.telling.proofs.Summaries.{low}
 
 module _ (t : Table) (m : Memory) where
   pub open-low : (mode : ℕ) {v : Verdict} {m′ : Memory} → record { answer = v; left = m′ } ≡ opening t m mode → refusalOf v ≤ 10

@@ -1,22 +1,21 @@
 -- A call of the core and the numbers made of its answer are the call at full size.
 --     called-is              open and offer
 --     told-is, not-four      read out and dissolve, with and without room for the summary
---     summary-stored         four numbers stored one after the other
 -- Assumes nothing.
 use Prim.Native.Nat.{ℕ}
-use mathlib.Core.Path.{_≡_, refl, _∙_, ap, ap₂}
-use mathlib.Core.List.{List, [], _∷_}
-use native.Mathlib.Omega.{arith}
-use lib.ListN.{length, set}
+use mathlib.Core.Path.{_≡_, _∙_, ap, ap₂}
+use mathlib.Core.List.{List}
+use lib.ListN.{length}
 use borrow.Author.Tests.{eq-eqb, ne-eqb}
 use Rattle.scope.specs.declared.Verdict.{Verdict}
 use Rattle.scope.specs.declared.Verdict.the-variants.{Refused}
 use Rattle.scope.specs.declared.ReadOut.{ReadOut}
-use Rattle.scope.specs.Answers.{kindOf, verdictOf, polygonsOf, ringsOf, ifAccepted}
+use Rattle.scope.specs.Answers.{verdictOf, ifAccepted}
 use Rattle.scope.specs.Memory.{Memory, Output}
 use Rattle.scope.specs.Calls.{Outcome, Reading}
-use Rattle.scope.specs.Bytes.{resultOf, areaBits}
-use Rattle.host.specs.Full.{Called, called, Told, summaryOf, told, fourNumbers}
+use Rattle.scope.specs.Bytes.{resultOf}
+use Rattle.telling.specs.Summary.{summaryOf}
+use Rattle.host.specs.Full.{Called, called, Told, told, fourNumbers}
 
 pub called-is : (o : Outcome) {v : Verdict} {m : Memory} {r : ℕ} → record { answer = v; left = m } ≡ o → r ≡ resultOf v → record { result = r; left = m } ≡ called o
 unfolding called
@@ -35,16 +34,3 @@ module _ (summary : List ℕ) where
       → record { result = r; left = m; out = out; summary = summary } ≡ fourNumbers summary m out done
   unfolding fourNumbers
   not-four m out done four q = let with-result : ℕ → Told = λ n. record { result = n; left = m; out = out; summary = summary } in rw (ne-eqb (length summary) 4 four) (ap with-result q)
-
-four-stored : (l : List ℕ) (a b c d : ℕ) → length l ≡ 4 → set (set (set (set l 0 a) 1 b) 2 c) 3 d ≡ a ∷ b ∷ c ∷ d ∷ []
-four-stored [] a b c d e = absurd (omega arith)
-four-stored (w ∷ []) a b c d e = absurd (omega arith)
-four-stored (w ∷ x ∷ []) a b c d e = absurd (omega arith)
-four-stored (w ∷ x ∷ y ∷ []) a b c d e = absurd (omega arith)
-four-stored (w ∷ x ∷ y ∷ z ∷ []) a b c d e = refl
-four-stored (w ∷ x ∷ y ∷ z ∷ u ∷ l) a b c d e = absurd (omega arith)
-
-pub summary-stored : (r : ReadOut) (l : List ℕ) {kind polygons rings bits : ℕ} → length l ≡ 4 → (kind ≡ kindOf r) × (polygons ≡ polygonsOf r) × (rings ≡ ringsOf r) × (bits ≡ areaBits r)
-    → set (set (set (set l 0 kind) 1 polygons) 2 rings) 3 bits ≡ summaryOf r
-summary-stored r l {kind} {polygons} {rings} {bits} four e =
-    let same : kind ∷ polygons ∷ rings ∷ bits ∷ [] ≡ summaryOf r = rw (e .0, e .1, e .2, e .3) in four-stored l kind polygons rings bits four ∙ same

@@ -2,16 +2,16 @@
 -- Assumes nothing.
 use Prim.Native.Nat.{ℕ}
 use mathlib.Core.Bool.{cond}
-use mathlib.Core.List.{List, [], _∷_}
+use mathlib.Core.List.{List}
 use lib.Dec.{eqb}
 use lib.ListN.{length}
-use Rattle.scope.specs.declared.ReadOut.{ReadOut}
 use Rattle.scope.specs.declared.Verdict.the-variants.{Refused}
-use Rattle.scope.specs.Answers.{kindOf, verdictOf, polygonsOf, ringsOf, ifAccepted}
+use Rattle.scope.specs.Answers.{verdictOf, ifAccepted}
 use Rattle.scope.specs.Table.{Table}
 use Rattle.scope.specs.Memory.{Memory, Output}
 use Rattle.scope.specs.Calls.{Outcome, Reading, readingOut, dissolving}
-use Rattle.scope.specs.Bytes.{resultOf, areaBits}
+use Rattle.scope.specs.Bytes.{resultOf}
+use Rattle.telling.specs.Summary.{summaryOf}
 
 -- ---- open and offer
 
@@ -29,10 +29,6 @@ pub record Told : Type 0 where
   pub left : Memory
   pub out : Output
   pub summary : List ℕ
-
--- Kind (0 nothing, 1 closed, 2 outline), polygons, rings, bits of the first outer area.
-abbrev pub summaryOf : ReadOut → List ℕ
-summaryOf r = kindOf r ∷ polygonsOf r ∷ ringsOf r ∷ areaBits r ∷ []
 
 -- A refused call leaves the summary as it was.
 unfoldable pub told : Reading → List ℕ → Told

@@ -1,23 +1,16 @@
 // The four calls at full size, on slices of numbers as they are in the core. include/zone_outliner.h documents them for C.
-use scope::ReadOut;
 use scope::Verdict;
 use solvent::dissolve;
 use solvent::offer;
 use solvent::open;
 use solvent::read_out;
-use wire::numbers::is_accepted;
+use telling::tell;
 use wire::numbers::result;
-use wire::numbers::summarise;
-use wire::numbers::verdict_of;
 ghost use mathlib.Core.Path.{_≡_};
-ghost use Prim.Native.Nat.{_≤_};
-ghost use lib.ListN.{length};
-ghost use Rattle.scope.specs.Answers.{refusalOf, verdictOf, ifAccepted};
 ghost use Rattle.scope.specs.Table.{table};
 ghost use Rattle.scope.specs.Memory.{memory, output};
 ghost use Rattle.scope.specs.Calls.{opening, offering};
-ghost use Rattle.scope.specs.Bytes.{resultOf};
-ghost use Rattle.host.specs.Full.{called, summaryOf, readingTold, dissolvingTold};
+ghost use Rattle.host.specs.Full.{called, readingTold, dissolvingTold};
 
 #[no_mangle]
 pub extern "C" fn zo_open(
@@ -97,31 +90,6 @@ pub extern "C" fn zo_offer(
         row_mark,
         cell,
     ))
-}
-
-// The four numbers of an answer.
-fn store_summary(summary: &mut [u64], answer: ReadOut)
-    requires { ⌜ length (now summary) ≡ 4 ⌝ }
-    ensures { λ _. ⌜ now (summary .exit) ≡ summaryOf answer ⌝ }
-{
-    let s = summarise(answer);
-    summary[0] = s.kind;
-    summary[1] = s.polygons;
-    summary[2] = s.rings;
-    summary[3] = s.area;
-}
-
-// The result, with the summary of an answer that is no refusal.
-fn tell(summary: &mut [u64], answer: ReadOut) -> u64
-    requires { ⌜ (length (now summary) ≡ 4) × (refusalOf (verdictOf answer) ≤ 10) ⌝ }
-    ensures { λ r. ⌜ r ≡ resultOf (verdictOf answer) ⌝ }
-    ensures { λ _. ⌜ now (summary .exit) ≡ ifAccepted (verdictOf answer) (summaryOf answer) (now (summary .entry)) ⌝ }
-{
-    let verdict = verdict_of(answer);
-    if is_accepted(verdict) {
-        store_summary(summary, answer);
-    }
-    result(verdict)
 }
 
 #[no_mangle]

@@ -1,0 +1,3 @@
+pub mod Outputs
+pub mod Rooms
+pub mod Arrays

@@ -1,0 +1,37 @@
+// What read out and dissolve answer at full size, told as numbers: the result, and a summary of four numbers.
+use scope::ReadOut;
+use wire::numbers::is_accepted;
+use wire::numbers::result;
+use wire::numbers::summarise;
+use wire::numbers::verdict_of;
+ghost use mathlib.Core.Path.{_≡_};
+ghost use Prim.Native.Nat.{_≤_};
+ghost use lib.ListN.{length};
+ghost use Rattle.scope.specs.Answers.{refusalOf, verdictOf, ifAccepted};
+ghost use Rattle.scope.specs.Bytes.{resultOf};
+ghost use Rattle.telling.specs.Summary.{summaryOf};
+
+// The four numbers of an answer.
+fn store_summary(summary: &mut [u64], answer: ReadOut)
+    requires { ⌜ length (now summary) ≡ 4 ⌝ }
+    ensures { λ _. ⌜ now (summary .exit) ≡ summaryOf answer ⌝ }
+{
+    let s = summarise(answer);
+    summary[0] = s.kind;
+    summary[1] = s.polygons;
+    summary[2] = s.rings;
+    summary[3] = s.area;
+}
+
+// The result, with the summary of an answer that is no refusal.
+pub fn tell(summary: &mut [u64], answer: ReadOut) -> u64
+    requires { ⌜ (length (now summary) ≡ 4) × (refusalOf (verdictOf answer) ≤ 10) ⌝ }
+    ensures { λ r. ⌜ r ≡ resultOf (verdictOf answer) ⌝ }
+    ensures { λ _. ⌜ now (summary .exit) ≡ ifAccepted (verdictOf answer) (summaryOf answer) (now (summary .entry)) ⌝ }
+{
+    let verdict = verdict_of(answer);
+    if is_accepted(verdict) {
+        store_summary(summary, answer);
+    }
+    result(verdict)
+}

@@ -75,18 +75,20 @@ fn walk(name: &str, cell: u64, target: u32) {
 fn walk(_: &str, _: u64, _: u32) {}
 
 /// What is dissolved: its name, the mode, the cells.
-fn lists(big: &Given) -> [(String, u32, Vec<u64>); 6] {
-    let apart = scattered(big, &disk(big, 16_384));
-    let mut any_order = disk(big, 10_000);
-    Random::new(2).shuffle(&mut any_order);
+fn lists(big: &Given) -> [(&'static str, u32, Vec<u64>); 6] {
     [
-        ("140 cells of a disk".into(), 0, disk(big, 140)),
-        ("200 cells of a disk".into(), 0, disk(big, 200)),
-        ("5,000 cells of a disk".into(), 0, disk(big, 5000)),
-        ("10,000 cells of a disk, shuffled".into(), 0, any_order),
-        (format!("{} cells that don't touch", apart.len()), 0, apart),
-        ("150 mixed cells".into(), 1, mixed(big, 150, &mut Random::new(1))),
+        ("140 cells of a disk", 0, disk(big, 140)),
+        ("200 cells of a disk", 0, disk(big, 200)),
+        ("5,000 cells of a disk", 0, disk(big, 5000)),
+        ("10,000 cells of a disk, shuffled", 0, shuffled(disk(big, 10_000))),
+        ("2,720 cells that don't touch", 0, scattered(big, &disk(big, 16_384))),
+        ("150 mixed cells", 1, mixed(big, 150, &mut Random::new(1))),
     ]
+}
+
+fn shuffled(mut cells: Vec<u64>) -> Vec<u64> {
+    Random::new(1).shuffle(&mut cells);
+    cells
 }
 
 fn heading(other: &str) {

@@ -23,25 +23,48 @@ sub-y : tie.Need-sub-y
 sub-y c = omega (arith, c .get322 .ensures .0, c .before .before .before .before .before .before .before .before .before .before .before .before .pre .0 .back-has)
 
 get32-requires-3 : tie.Need-get32-requires-3
-get32-requires-3 c κs = omega (arith, c .before .before .before .get32 .ensures .0, c .before .before .before .before .before .before .before .before .before .before .before .before .before .pre .0 .row-slot, c .before .before .before .before .before .before .before .before .before .before .before .before .before .pre .0 .even-cell)
+get32-requires-3 c κs =
+    let at-get32 = c .before .before .before in
+    let start = at-get32 .before .before .before .before .before .before .before .before .before .before in
+    omega (arith, at-get32 .get32 .ensures .0, start .pre .0 .row-slot, start .pre .0 .even-cell)
 
 get32-requires-4 : tie.Need-get32-requires-4
-get32-requires-4 c κs = omega (arith, c .before .before .before .get322 .ensures .0, c .before .before .before .before .before .before .before .before .before .before .before .before .before .before .before .pre .0 .back-slot, c .before .before .before .before .before .before .before .before .before .before .before .before .before .before .before .pre .0 .even-cell)
+get32-requires-4 c κs =
+    let at-get322 = c .before .before .before in
+    let start = at-get322 .before .before .before .before .before .before .before .before .before .before .before .before in
+    omega (arith, at-get322 .get322 .ensures .0, start .pre .0 .back-slot, start .pre .0 .even-cell)
 
 union-requires : tie.Need-union-requires
-union-requires c κs = union-asks (c .before .before .before .before .before .before .before .before .before .before .before .before .before .before .before .before .before .before .pre .0) (c .before .before .before .before .before .before .before .before .get32 .result) (c .before .before .before .before .before .before .get322 .result) (c .before .before .before .before .before .before .before .before .get32 .ensures .0) (c .before .before .before .before .before .before .get322 .ensures .0) (c .before .before .before .before .get323 .result) (c .before .before .get324 .result) (c .before .before .before .before .get323 .ensures .0) (c .before .before .get324 .ensures .0)
+union-requires c κs =
+    let at-get323 = c .before .before .before .before in
+    let at-get322 = at-get323 .before .before in
+    let at-get32 = at-get322 .before .before in
+    let start = at-get32 .before .before .before .before .before .before .before .before .before .before in
+    union-asks (start .pre .0) (at-get32 .get32 .result) (at-get322 .get322 .result) (at-get32 .get32 .ensures .0) (at-get322 .get322 .ensures .0) (at-get323 .get323 .result) (c .before .before .get324 .result) (at-get323 .get323 .ensures .0) (c .before .before .get324 .ensures .0)
 
 merge-arcs-requires : tie.Need-merge-arcs-requires
-merge-arcs-requires c κs = merge-asks (c .before .before .before .before .before .before .before .before .before .before .before .before .before .before .before .before .before .before .before .before .before .before .before .before .before .pre .0) (c .before .before .before .before .before .before .before .before .before .before .before .before .before .before .before .get32 .result) (c .before .before .before .before .before .before .before .before .before .before .before .before .before .get322 .result) (c .before .before .before .before .before .before .before .before .before .before .before .before .before .before .before .get32 .ensures .0) (c .before .before .before .before .before .before .before .before .before .before .before .before .before .get322 .ensures .0)
+merge-arcs-requires c κs =
+    let at-get322 = c .before .before .before .before .before .before .before .before .before .before .before .before .before in
+    let at-get32 = at-get322 .before .before in
+    let start = at-get32 .before .before .before .before .before .before .before .before .before .before in
+    merge-asks (start .pre .0) (at-get32 .get32 .result) (at-get322 .get322 .result) (at-get32 .get32 .ensures .0) (at-get322 .get322 .ensures .0)
 
 free-pair-requires : tie.Need-free-pair-requires
-free-pair-requires c κs = free-asks (c .before .before .before .before .before .before .before .before .before .before .before .before .before .before .before .before .before .before .before .before .before .before .before .before .before .before .before .before .before .before .before .before .before .before .before .pre .0) (c .before .before .before .before .before .before .before .before .before .before .before .before .before .before .before .before .before .before .before .before .before .before .before .before .before .get32 .result) (c .before .before .before .before .before .before .before .before .before .before .before .before .before .before .before .before .before .before .before .before .before .before .before .get322 .result) (c .before .before .before .before .before .before .before .before .before .before .before .before .before .before .before .before .before .before .before .before .before .before .before .before .before .get32 .ensures .0) (c .before .before .before .before .before .before .before .before .before .before .before .before .before .before .before .before .before .before .before .before .before .before .before .get322 .ensures .0) (c .before .before .before .before .before .before .before .before .before .merge-arcs .last .0) (c .before .before .before .before .before .before .before .before .before .merge-arcs .last .1 .0) (c .before .before .before .before .before .before .before .before .before .merge-arcs .kept .0) (c .before .before .before .before .before .before .before .before .before .merge-arcs .kept .1 .0)
+free-pair-requires c κs =
+    let at-merge-arcs = c .before .before .before .before .before .before .before .before .before in
+    let at-get322 = at-merge-arcs .before .before .before .before .before .before .before .before .before .before .before .before .before .before in
+    let at-get32 = at-get322 .before .before in
+    let start = at-get32 .before .before .before .before .before .before .before .before .before .before in
+    free-asks (start .pre .0) (at-get32 .get32 .result) (at-get322 .get322 .result) (at-get32 .get32 .ensures .0) (at-get322 .get322 .ensures .0) (at-merge-arcs .merge-arcs .last .0) (at-merge-arcs .merge-arcs .last .1 .0) (at-merge-arcs .merge-arcs .kept .0) (at-merge-arcs .merge-arcs .kept .1 .0)
 
 clear-two-requires : tie.Need-clear-two-requires
 clear-two-requires c κs =
-    let x = c .before .before .before .before .before .before .before .before .before .before .before .before .before .before .before .before .before .before .before .before .before .before .before .before .before .before .before .before .before .before .before .before .before .before .before .before .before .get32 .ensures .0 in
-    let y = c .before .before .before .before .before .before .before .before .before .before .before .before .before .before .before .before .before .before .before .before .before .before .before .before .before .before .before .before .before .before .before .before .before .before .before .get322 .ensures .0 in
-    (omega (arith, c .before .before .before .before .before .before .before .before .before .before .before .before .before .before .before .before .before .before .before .before .before .before .before .before .before .before .before .before .before .before .before .before .before .before .before .before .before .before .before .before .before .before .before .before .before .before .before .pre .0 .row-slot, c .before .before .before .before .before .before .before .before .before .before .before .before .before .before .before .before .before .before .before .before .before .before .before .before .before .before .before .before .before .before .before .before .before .before .before .before .before .before .before .before .before .before .before .before .before .before .before .pre .0 .back-slot, c .before .before .before .before .before .before .before .before .before .before .before .before .before .before .before .before .before .before .before .before .before .before .before .before .before .before .before .before .before .before .before .before .before .before .before .before .before .before .before .before .before .before .before .before .before .before .before .pre .1 .room), omega (arith, c .before .before .before .before .before .before .before .before .before .before .before .before .before .before .before .before .before .before .before .before .before .before .before .before .before .before .before .before .before .before .before .before .before .before .before .before .before .before .before .before .before .before .before .before .before .before .before .pre .0 .row-slot, c .before .before .before .before .before .before .before .before .before .before .before .before .before .before .before .before .before .before .before .before .before .before .before .before .before .before .before .before .before .before .before .before .before .before .before .before .before .before .before .before .before .before .before .before .before .before .before .pre .0 .back-slot, c .before .before .before .before .before .before .before .before .before .before .before .before .before .before .before .before .before .before .before .before .before .before .before .before .before .before .before .before .before .before .before .before .before .before .before .before .before .before .before .before .before .before .before .before .before .before .before .pre .1 .room))
+    let at-get322 = c .before .before .before .before .before .before .before .before .before .before .before .before .before .before .before .before .before .before .before .before .before .before .before .before .before .before .before .before .before .before .before .before .before .before .before in
+    let at-get32 = at-get322 .before .before in
+    let start = at-get32 .before .before .before .before .before .before .before .before .before .before in
+    let x = at-get32 .get32 .ensures .0 in
+    let y = at-get322 .get322 .ensures .0 in
+    (omega (arith, start .pre .0 .row-slot, start .pre .0 .back-slot, start .pre .1 .room), omega (arith, start .pre .0 .row-slot, start .pre .0 .back-slot, start .pre .1 .room))
 
 same-length : tie.Need-same-length
 same-length c = c .before .before .before .before .before .before .before .before .before .before .before .before .before .before .before .before .before .before .before .before .before .before .before .before .before .before .before .before .before .before .before .union .kept .0
@@ -56,10 +79,16 @@ same-length-4 : tie.Need-same-length-4
 same-length-4 c = c .before .before .before .before .before .before .before .before .before .before .before .before .before .before .free-pair .kept .1 .0
 
 same-length-5 : tie.Need-same-length-5
-same-length-5 c = c .before .before .before .before .before .before .before .before .before .before .before .before .before .before .free-pair .kept .1 .1 .0 ∙ c .before .before .before .before .before .before .before .before .before .before .before .before .before .before .before .before .before .before .before .before .before .before .before .before .merge-arcs .kept .0
+same-length-5 c =
+    let at-free-pair = c .before .before .before .before .before .before .before .before .before .before .before .before .before .before in
+    let at-merge-arcs = at-free-pair .before .before .before .before .before .before .before .before .before .before in
+    at-free-pair .free-pair .kept .1 .1 .0 ∙ at-merge-arcs .merge-arcs .kept .0
 
 same-length-6 : tie.Need-same-length-6
-same-length-6 c = c .before .before .before .before .before .before .before .before .before .before .before .before .before .before .free-pair .kept .1 .1 .1 .0 ∙ c .before .before .before .before .before .before .before .before .before .before .before .before .before .before .before .before .before .before .before .before .before .before .before .before .merge-arcs .kept .1 .0
+same-length-6 c =
+    let at-free-pair = c .before .before .before .before .before .before .before .before .before .before .before .before .before .before in
+    let at-merge-arcs = at-free-pair .before .before .before .before .before .before .before .before .before .before in
+    at-free-pair .free-pair .kept .1 .1 .1 .0 ∙ at-merge-arcs .merge-arcs .kept .1 .0
 
 same-length-7 : tie.Need-same-length-7
 same-length-7 c = c .before .before .before .before .before .before .before .before .before .before .before .before .before .before .free-pair .kept .1 .1 .1 .1 .0
@@ -69,13 +98,21 @@ same-length-8 c = c .before .before .clear-two .kept .0
 
 returns : tie.Need-returns
 returns c =
-    let x-in : c .before .before .before .before .before .before .before .before .before .before .before .before .before .before .before .before .before .before .before .before .before .before .before .before .before .before .before .before .before .before .before .before .before .before .before .before .before .before .before .before .get32 .result - 1 < length (c .before .before .before .before .before .before .before .before .before .before .before .before .before .before .before .before .before .before .before .before .before .before .before .before .before .before .before .before .before .before .before .before .before .before .before .before .before .before .before .before .before .before .before .before .before .before .before .before .before .before .args .slot-row .now) = omega (arith, c .before .before .before .before .before .before .before .before .before .before .before .before .before .before .before .before .before .before .before .before .before .before .before .before .before .before .before .before .before .before .before .before .before .before .before .before .before .before .before .before .get32 .ensures .0, c .before .before .before .before .before .before .before .before .before .before .before .before .before .before .before .before .before .before .before .before .before .before .before .before .before .before .before .before .before .before .before .before .before .before .before .before .before .before .before .before .before .before .before .before .before .before .before .before .before .before .pre .0 .row-slot) in
-    let y-in : c .before .before .before .before .before .before .before .before .before .before .before .before .before .before .before .before .before .before .before .before .before .before .before .before .before .before .before .before .before .before .before .before .before .before .before .before .before .before .get322 .result - 1 < length (c .before .before .before .before .before .before .before .before .before .before .before .before .before .before .before .before .before .before .before .before .before .before .before .before .before .before .before .before .before .before .before .before .before .before .before .before .before .before .before .before .before .before .before .before .before .before .before .before .before .before .args .slot-row .now) = omega (arith, c .before .before .before .before .before .before .before .before .before .before .before .before .before .before .before .before .before .before .before .before .before .before .before .before .before .before .before .before .before .before .before .before .before .before .before .before .before .before .get322 .ensures .0, c .before .before .before .before .before .before .before .before .before .before .before .before .before .before .before .before .before .before .before .before .before .before .before .before .before .before .before .before .before .before .before .before .before .before .before .before .before .before .before .before .before .before .before .before .before .before .before .before .before .before .pre .0 .back-slot) in (
-      pair-done (c .before .before .before .before .before .before .before .before .before .before .before .before .before .before .before .before .before .before .before .before .before .before .before .before .before .before .before .before .before .before .before .before .before .before .before .before .before .before .before .before .before .before .before .before .before .before .before .before .before .before .pre .0) (c .before .before .before .before .before .before .before .before .before .before .before .before .before .before .before .before .before .before .before .before .before .before .before .before .before .before .before .before .before .before .before .before .before .before .before .before .before .before .before .before .get32 .result) (c .before .before .before .before .before .before .before .before .before .before .before .before .before .before .before .before .before .before .before .before .before .before .before .before .before .before .before .before .before .before .before .before .before .before .before .before .before .before .get322 .result) (c .before .before .before .before .before .before .before .before .before .before .before .before .before .before .before .before .before .before .before .before .before .before .before .before .before .before .before .before .before .before .before .before .before .before .before .before .before .before .before .before .get32 .ensures .0) (c .before .before .before .before .before .before .before .before .before .before .before .before .before .before .before .before .before .before .before .before .before .before .before .before .before .before .before .before .before .before .before .before .before .before .before .before .before .before .get322 .ensures .0) (c .before .before .before .before .before .before .before .before .before .before .before .before .before .before .before .before .before .before .before .before .before .before .before .before .before .before .before .before .before .before .before .before .before .before .before .before .get323 .result) (c .before .before .before .before .before .before .before .before .before .before .before .before .before .before .before .before .before .before .before .before .before .before .before .before .before .before .before .before .before .before .before .before .before .before .get324 .result) (c .before .before .before .before .before .before .before .before .before .before .before .before .before .before .before .before .before .before .before .before .before .before .before .before .before .before .before .before .before .before .before .before .before .before .before .before .get323 .ensures .0) (c .before .before .before .before .before .before .before .before .before .before .before .before .before .before .before .before .before .before .before .before .before .before .before .before .before .before .before .before .before .before .before .before .before .before .get324 .ensures .0) (c .before .before .before .before .before .before .before .before .before .before .before .before .before .before .before .before .before .before .before .before .before .before .before .before .merge-arcs .last .0) (c .before .before .before .before .before .before .before .before .before .before .before .before .before .before .before .before .before .before .before .before .before .before .before .before .merge-arcs .last .1 .0)
-          (pool (c .before .before .before .before .before .before .before .before .before .before .before .before .before .before .before .before .before .before .before .before .before .before .before .before .before .before .before .before .before .before .before .union .last .0) (c .before .before .before .before .before .before .before .before .before .before .before .before .before .before .before .before .before .before .before .before .before .before .before .before .before .before .before .before .before .before .before .union .last .1 .0) (c .before .before .before .before .before .before .before .before .before .before .before .before .before .before .free-pair .last .0) (c .before .before .before .before .before .before .before .before .before .before .before .before .before .before .free-pair .last .1 .0) (c .before .before .before .before .before .before .before .before .before .before .before .before .before .before .free-pair .last .1 .1 .0) (c .before .before .before .before .before .before .before .before .before .before .before .before .before .before .free-pair .last .1 .1 .1 .0) (c .before .before .before .before .before .before .before .before .before .before .before .before .before .before .free-pair .last .1 .1 .1 .1 .0))
-          (c .before .before .before .before .before .before .before .before .before .before .before .before .before .before .before .before .before .before .before .before .before .before .before .before .before .before .before .before .before .before .before .union .kept .0) (c .before .before .before .before .before .before .before .before .before .before .before .before .before .before .before .before .before .before .before .before .before .before .before .before .before .before .before .before .before .before .before .union .kept .1 .0)
-          (c .before .before .before .before .before .before .before .before .before .before .before .before .before .before .before .before .before .before .before .before .before .before .before .before .before .before .before .before .before .before .before .union .ensures) (c .before .before .before .before .before .before .before .before .before .before .before .before .before .before .before .before .before .before .before .before .before .before .before .before .merge-arcs .ensures .0) (c .before .before .before .before .before .before .before .before .before .before .before .before .before .before .before .before .before .before .before .before .before .before .before .before .merge-arcs .ensures .1) (c .before .before .before .before .before .before .before .before .before .before .before .before .before .before .free-pair .ensures),
-      flags-cleared (c .before .before .before .before .before .before .before .before .before .before .before .before .before .before .before .before .before .before .before .before .before .before .before .before .before .before .before .before .before .before .before .before .before .before .before .before .before .before .before .before .before .before .before .before .before .before .before .before .before .before .pre .1) x-in y-in (c .before .before .before .before .before .before .before .before .before .before .before .before .before .before .free-pair .ensures .slot-row) (c .before .before .clear-two .ensures),
+    let at-free-pair = c .before .before .before .before .before .before .before .before .before .before .before .before .before .before in
+    let at-merge-arcs = at-free-pair .before .before .before .before .before .before .before .before .before .before in
+    let at-union = at-merge-arcs .before .before .before .before .before .before .before in
+    let at-get324 = at-union .before .before .before in
+    let at-get323 = at-get324 .before .before in
+    let at-get322 = at-get323 .before .before in
+    let at-get32 = at-get322 .before .before in
+    let start = at-get32 .before .before .before .before .before .before .before .before .before .before in
+    let x-in : at-get32 .get32 .result - 1 < length (start .args .slot-row .now) = omega (arith, at-get32 .get32 .ensures .0, start .pre .0 .row-slot) in
+    let y-in : at-get322 .get322 .result - 1 < length (start .args .slot-row .now) = omega (arith, at-get322 .get322 .ensures .0, start .pre .0 .back-slot) in (
+      pair-done (start .pre .0) (at-get32 .get32 .result) (at-get322 .get322 .result) (at-get32 .get32 .ensures .0) (at-get322 .get322 .ensures .0) (at-get323 .get323 .result) (at-get324 .get324 .result) (at-get323 .get323 .ensures .0) (at-get324 .get324 .ensures .0) (at-merge-arcs .merge-arcs .last .0) (at-merge-arcs .merge-arcs .last .1 .0)
+          (pool (at-union .union .last .0) (at-union .union .last .1 .0) (at-free-pair .free-pair .last .0) (at-free-pair .free-pair .last .1 .0) (at-free-pair .free-pair .last .1 .1 .0) (at-free-pair .free-pair .last .1 .1 .1 .0) (at-free-pair .free-pair .last .1 .1 .1 .1 .0))
+          (at-union .union .kept .0) (at-union .union .kept .1 .0)
+          (at-union .union .ensures) (at-merge-arcs .merge-arcs .ensures .0) (at-merge-arcs .merge-arcs .ensures .1) (at-free-pair .free-pair .ensures),
+      flags-cleared (start .pre .1) x-in y-in (at-free-pair .free-pair .ensures .slot-row) (c .before .before .clear-two .ensures),
     )
 
 pub cancel-pair-spec : {M : Type 1} → statement M

@@ -9,7 +9,9 @@ use Rattle.arcs.proofs.cancel.cancel_row.Tie as tie
 
 -- `read`: what the test reads.
 
-read : (c : tie.After-get322) → c .get322 .result ≡ at (c .before .before .before .before .before .before .before .before .before .before .before .before .args .row-slot .now) (at (c .before .before .before .before .before .before .before .before .before .before .before .before .args .reverse .now) (c .before .before .before .before .before .before .before .before .before .before .before .before .args .row))
+read : (c : tie.After-get322) →
+    let start = c .before .before .before .before .before .before .before .before .before .before .before .before in
+    c .get322 .result ≡ at (start .args .row-slot .now) (at (start .args .reverse .now) (start .args .row))
 read c = c .get322 .ensures .0 ∙ ap (at (c .before .before .before .before .before .before .before .before .before .before .before .before .args .row-slot .now)) (c .before .before .get32 .ensures .0)
 
 get32-requires : tie.Need-get32-requires
@@ -25,7 +27,12 @@ returns : tie.Need-returns
 returns c = (inl (sym (read ((c .before))) ∙ c .if1 .taken, refl, refl), c .before .before .before .before .before .before .before .before .before .before .before .before .before .pre .1)
 
 cancel-pair-requires : tie.Need-cancel-pair-requires
-cancel-pair-requires c κs = (rw (c .before .before .before .before .before .before .before .before .before .before .before .get32 .ensures .0) (c .before .before .before .before .before .before .before .before .before .before .before .before .before .before .before .before .before .before .before .before .before .pre .0 .pair (λ z. c .before .before .before .before .before .before .before .before .if1 .left (read ((c .before .before .before .before .before .before .before .before .before)) ∙ z))), c .before .before .before .before .before .before .before .before .before .before .before .before .before .before .before .before .before .before .before .before .before .pre .1)
+cancel-pair-requires c κs =
+    let at-if1 = c .before .before .before .before .before .before .before .before in
+    let at-get322 = at-if1 .before in
+    let at-get32 = at-get322 .before .before in
+    let start = at-get32 .before .before .before .before .before .before .before .before .before .before in
+    (rw (at-get32 .get32 .ensures .0) (start .pre .0 .pair (λ z. at-if1 .if1 .left (read at-get322 ∙ z))), start .pre .1)
 
 same-length-2 : tie.Need-same-length-2
 same-length-2 c = c .before .before .before .before .before .before .before .before .before .before .before .before .before .before .before .before .cancel-pair .kept .0
@@ -52,7 +59,12 @@ same-length-9 : tie.Need-same-length-9
 same-length-9 c = c .before .before .before .before .before .before .before .before .before .before .before .before .before .before .before .before .cancel-pair .kept .1 .1 .1 .1 .1 .1 .1 .0
 
 returns-2 : tie.Need-returns-2
-returns-2 c = (inr ((λ z. c .before .before .before .before .before .before .before .before .before .before .before .before .before .before .before .before .before .before .before .before .before .before .before .before .before .if1 .left (read ((c .before .before .before .before .before .before .before .before .before .before .before .before .before .before .before .before .before .before .before .before .before .before .before .before .before .before)) ∙ z)), refl, rw (c .before .before .before .before .before .before .before .before .before .before .before .before .before .before .before .before .before .before .before .before .before .before .before .before .before .before .before .before .get32 .ensures .0) at (c .before .before .before .before .before .before .before .before .before .before .before .before .before .before .before .before .cancel-pair .ensures .0)), c .before .before .before .before .before .before .before .before .before .before .before .before .before .before .before .before .cancel-pair .ensures .1)
+returns-2 c =
+    let at-cancel-pair = c .before .before .before .before .before .before .before .before .before .before .before .before .before .before .before .before in
+    let at-if1 = at-cancel-pair .before .before .before .before .before .before .before .before .before in
+    let at-get322 = at-if1 .before in
+    let at-get32 = at-get322 .before .before in
+    (inr ((λ z. at-if1 .if1 .left (read at-get322 ∙ z)), refl, rw (at-get32 .get32 .ensures .0) at (at-cancel-pair .cancel-pair .ensures .0)), at-cancel-pair .cancel-pair .ensures .1)
 
 pub cancel-row-spec : {M : Type 1} → statement M
 cancel-row-spec =

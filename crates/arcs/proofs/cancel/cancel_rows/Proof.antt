@@ -24,13 +24,23 @@ abbrev left : tie.After-cancel-row Inv-loop μ-loop → Memory
 left c = pool (c .cancel-row .last .1 .0) (c .cancel-row .last .1 .1 .0) (c .cancel-row .last .1 .1 .1 .0) (c .cancel-row .last .1 .1 .1 .1 .0) (c .cancel-row .last .1 .1 .1 .1 .1 .0) (c .cancel-row .last .1 .1 .1 .1 .1 .1 .0) (c .cancel-row .last .1 .1 .1 .1 .1 .1 .1 .0)
 
 turned : (c : tie.After-cancel-row Inv-loop μ-loop) →
-    let a = c .before .before .before .before .before .before .before .before .before .before .before .before .before .before .before .before .before .before .before .before .before .before .args in
+    let loop = c .before .before .before .before .before .before .before .before .before .before .before in
+    let start = loop .before .before .before .before .before .before .before .before .before .before .before in
+    let a = start .args in
     Meeting (reverses (a .reverse .now)) (pool (a .parent .now) (a .rank .now) (a .slot-row .now) (a .slot-cell .now) (a .prev .now) (a .next .now) (a .row-slot .now))
-    (a .held) (a .rows .now) (c .before .before .before .before .before .before .before .before .before .before .before .loop .i + 1) (c .before .before .before .before .before .before .before .before .before .before .before .loop .pairs + c .cancel-row .result) (left c)
-turned c = meeting-turn (c .before .before .before .before .before .before .before .before .before .before .before .before .before .before .before .before .before .before .before .before .before .before .pre .0) (c .before .before .before .before .before .before .before .before .before .before .before .loop .inv .0) (c .before .before .before .before .before .before .before .before .before .before .loop-test .taken) (c .before .before .before .before .before .before .before .before .before .get32 .ensures .0) {m″ = left c} (c .cancel-row .ensures .0)
+    (a .held) (a .rows .now) (loop .loop .i + 1) (loop .loop .pairs + c .cancel-row .result) (left c)
+turned c =
+    let at-get32 = c .before .before .before .before .before .before .before .before .before in
+    let test = at-get32 .before in
+    let loop = test .before in
+    let start = loop .before .before .before .before .before .before .before .before .before .before .before in
+    meeting-turn (start .pre .0) (loop .loop .inv .0) (test .loop-test .taken) (at-get32 .get32 .ensures .0) {m″ = left c} (c .cancel-row .ensures .0)
 
 in-rows : (c : tie.After-cancel-row Inv-loop μ-loop) → c .before .before .before .before .before .before .before .before .before .before .before .loop .i < 2 ^ 64 - 1
-in-rows c = let fits = c .before .before .before .before .before .before .before .before .before .before .before .before .before .before .before .before .before .before .before .before .before .before .good .1 .1 .1 .1 .1 .1 .1 .1 .1 .0 .0 in omega (arith, c .before .before .before .before .before .before .before .before .before .before .loop-test .taken)
+in-rows c =
+    let test = c .before .before .before .before .before .before .before .before .before .before in
+    let start = test .before .before .before .before .before .before .before .before .before .before .before .before in
+    let fits = start .good .1 .1 .1 .1 .1 .1 .1 .1 .1 .0 .0 in omega (arith, test .loop-test .taken)
 
 loop-holds : tie.Need-loop-holds Inv-loop μ-loop
 loop-holds c = (meeting-start (c .before .before .before .before .before .before .before .before .before .before .pre .0), c .before .before .before .before .before .before .before .before .before .before .pre .1, refl)
@@ -39,19 +49,31 @@ get32-requires : tie.Need-get32-requires Inv-loop μ-loop
 get32-requires c κs = c .loop-test .taken
 
 cancel-row-requires : tie.Need-cancel-row-requires Inv-loop μ-loop
-cancel-row-requires c κs = (row-asks (c .before .before .before .before .before .before .before .before .before .before .before .before .before .before .before .before .before .before .before .before .before .pre .0) (c .before .before .before .before .before .before .before .before .before .before .loop .inv .0) (c .before .before .before .before .before .before .before .before .before .loop-test .taken) (c .before .before .before .before .before .before .before .before .get32 .ensures .0), c .before .before .before .before .before .before .before .before .before .before .loop .inv .1)
+cancel-row-requires c κs =
+    let at-get32 = c .before .before .before .before .before .before .before .before in
+    let test = at-get32 .before in
+    let loop = test .before in
+    let start = loop .before .before .before .before .before .before .before .before .before .before .before in
+    (row-asks (start .pre .0) (loop .loop .inv .0) (test .loop-test .taken) (at-get32 .get32 .ensures .0), loop .loop .inv .1)
 
 add-pairs : tie.Need-add-pairs Inv-loop μ-loop
-add-pairs c = omega (arith, turned ((c .before .before .before .before .before .before .before .before .before .before .before .before .before .before .before .before)) .few, in-rows ((c .before .before .before .before .before .before .before .before .before .before .before .before .before .before .before .before)))
+add-pairs c =
+    let at-cancel-row = c .before .before .before .before .before .before .before .before .before .before .before .before .before .before .before .before in
+    omega (arith, turned at-cancel-row .few, in-rows at-cancel-row)
 
 add-i : tie.Need-add-i Inv-loop μ-loop
-add-i c = omega (arith, in-rows ((c .before .before .before .before .before .before .before .before .before .before .before .before .before .before .before .before)))
+add-i c =
+    let at-cancel-row = c .before .before .before .before .before .before .before .before .before .before .before .before .before .before .before .before in
+    omega (arith, in-rows at-cancel-row)
 
 loop-less : tie.Need-loop-less Inv-loop μ-loop
 loop-less c = omega (arith, c .before .before .before .before .before .before .before .before .before .before .before .before .before .before .before .before .before .before .before .before .before .before .before .before .before .before .loop-test .taken)
 
 loop-again : tie.Need-loop-again Inv-loop μ-loop
-loop-again c = (turned ((c .before .before .before .before .before .before .before .before .before .before .before .before .before .before .before .before)), c .before .before .before .before .before .before .before .before .before .before .before .before .before .before .before .before .cancel-row .ensures .1, c .before .before .before .before .before .before .before .before .before .before .before .before .before .before .before .before .cancel-row .kept .1 .1 .1 .1 .1 .1 .1 .1 .0 ∙ c .before .before .before .before .before .before .before .before .before .before .before .before .before .before .before .before .before .before .before .before .before .before .before .before .before .before .before .loop .inv .2)
+loop-again c =
+    let at-cancel-row = c .before .before .before .before .before .before .before .before .before .before .before .before .before .before .before .before in
+    let loop = at-cancel-row .before .before .before .before .before .before .before .before .before .before .before in
+    (turned at-cancel-row, at-cancel-row .cancel-row .ensures .1, at-cancel-row .cancel-row .kept .1 .1 .1 .1 .1 .1 .1 .1 .0 ∙ loop .loop .inv .2)
 
 same-length : tie.Need-same-length Inv-loop μ-loop
 same-length c = c .before .loop .inv .0 .going .long-parent

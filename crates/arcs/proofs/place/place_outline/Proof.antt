@@ -9,7 +9,10 @@ place-rows-requires : tie.Need-place-rows-requires
 place-rows-requires c κs = c .before .before .before .before .before .before .before .before .before .before .before .pre .placing
 
 link-rows-requires : tie.Need-link-rows-requires
-link-rows-requires c κs = link-asks (c .before .before .before .before .before .before .before .before .before .before .before .before .before .before .before .before .before .before .before .before .before .before .before .pre) (c .before .before .before .before .before .before .before .before .before .before .before .place-rows .ensures)
+link-rows-requires c κs =
+    let at-place-rows = c .before .before .before .before .before .before .before .before .before .before .before in
+    let start = at-place-rows .before .before .before .before .before .before .before .before .before .before .before .before in
+    link-asks (start .pre) (at-place-rows .place-rows .ensures)
 
 same-length : tie.Need-same-length
 same-length c = search needs
@@ -30,7 +33,11 @@ same-length-6 : tie.Need-same-length-6
 same-length-6 c = search needs
 
 returns : tie.Need-returns
-returns c = outline-done (c .before .before .before .before .before .before .before .before .before .before .before .before .before .before .before .before .before .before .before .before .before .before .before .before .before .before .before .before .pre) (c .before .before .before .before .before .before .before .before .before .before .before .before .before .before .before .before .place-rows .ensures) (c .before .before .before .before .link-rows .ensures)
+returns c =
+    let at-link-rows = c .before .before .before .before in
+    let at-place-rows = at-link-rows .before .before .before .before .before .before .before .before .before .before .before .before in
+    let start = at-place-rows .before .before .before .before .before .before .before .before .before .before .before .before in
+    outline-done (start .pre) (at-place-rows .place-rows .ensures) (at-link-rows .link-rows .ensures)
 
 pub place-outline-spec : {M : Type 1} → statement M
 place-outline-spec =

@@ -17,11 +17,27 @@ abbrev μ-loop : tie.MeasureT-loop
 
 -- `slot`: what the search answers; `fits`: its stores fit.
 
-slot : (c : tie.After-lowest-free Inv-loop μ-loop) → Slot (c .before .before .before .before .before .before .before .before .before .before .before .pre) (c .before .before .before .before .before .loop .inv) (c .lowest-free .result)
-slot c = placing-slot (c .before .before .before .before .before .before .before .before .before .before .before .pre) (c .before .before .before .before .before .loop .inv) (c .before .before .before .before .loop-test .taken) (c .lowest-free .ensures .found)
+slot : (c : tie.After-lowest-free Inv-loop μ-loop) →
+    let loop = c .before .before .before .before .before in
+    let start = loop .before .before .before .before .before .before in
+    Slot (start .pre) (loop .loop .inv) (c .lowest-free .result)
+slot c =
+    let test = c .before .before .before .before in
+    let loop = test .before in
+    let start = loop .before .before .before .before .before .before in
+    placing-slot (start .pre) (loop .loop .inv) (test .loop-test .taken) (c .lowest-free .ensures .found)
 
-fits : (c : tie.After-lowest-free Inv-loop μ-loop) → Fits (c .before .before .before .before .before .before .before .before .before .before .before .pre) (c .before .before .before .before .before .loop .inv) (c .before .before .before .before .loop-test .taken) (c .lowest-free .result) (c .before .before .before .get32 .result)
-fits c = placing-fits _ (c .before .before .before .before .before .loop .inv) (c .before .before .before .before .loop-test .taken) (slot c) (c .before .before .before .get32 .ensures .0)
+fits : (c : tie.After-lowest-free Inv-loop μ-loop) →
+    let at-get32 = c .before .before .before in
+    let test = at-get32 .before in
+    let loop = test .before in
+    let start = loop .before .before .before .before .before .before in
+    Fits (start .pre) (loop .loop .inv) (test .loop-test .taken) (c .lowest-free .result) (at-get32 .get32 .result)
+fits c =
+    let at-get32 = c .before .before .before in
+    let test = at-get32 .before in
+    let loop = test .before in
+    placing-fits _ (loop .loop .inv) (test .loop-test .taken) (slot c) (at-get32 .get32 .ensures .0)
 
 loop-holds : tie.Need-loop-holds Inv-loop μ-loop
 loop-holds c = placing-start (c .before .before .before .before .before .pre)
@@ -30,25 +46,41 @@ get32-requires : tie.Need-get32-requires Inv-loop μ-loop
 get32-requires c κs = search needs
 
 lowest-free-requires : tie.Need-lowest-free-requires Inv-loop μ-loop
-lowest-free-requires c κs = search-asks (c .before .before .before .before .before .before .before .before .before .before .pre) (c .before .before .before .before .loop .inv) (c .before .before .before .loop-test .taken)
+lowest-free-requires c κs =
+    let test = c .before .before .before in
+    let loop = test .before in
+    let start = loop .before .before .before .before .before .before in
+    search-asks (start .pre) (loop .loop .inv) (test .loop-test .taken)
 
 add-put32 : tie.Need-add-put32 Inv-loop μ-loop
-add-put32 c = let f = fits ((c .before .before .before)) .row-fits in omega arith
+add-put32 c =
+    let at-lowest-free = c .before .before .before in
+    let f = fits at-lowest-free .row-fits in omega arith
 
 put32-requires : tie.Need-put32-requires Inv-loop μ-loop
-put32-requires c κs = let f = fits ((c .before .before .before)) in (f .in-row, f .row-fits)
+put32-requires c κs =
+    let at-lowest-free = c .before .before .before in
+    let f = fits at-lowest-free in (f .in-row, f .row-fits)
 
 put32-requires-2 : tie.Need-put32-requires-2 Inv-loop μ-loop
-put32-requires-2 c κs = let f = fits ((c .before .before .before .before .before .before .before)) in (f .in-cell, f .cell-fits)
+put32-requires-2 c κs =
+    let at-lowest-free = c .before .before .before .before .before .before .before in
+    let f = fits at-lowest-free in (f .in-cell, f .cell-fits)
 
 add-put32-2 : tie.Need-add-put32-2 Inv-loop μ-loop
-add-put32-2 c = let f = fits ((c .before .before .before .before .before .before .before .before .before .before .before)) .slot-fits in omega arith
+add-put32-2 c =
+    let at-lowest-free = c .before .before .before .before .before .before .before .before .before .before .before in
+    let f = fits at-lowest-free .slot-fits in omega arith
 
 put32-requires-3 : tie.Need-put32-requires-3 Inv-loop μ-loop
-put32-requires-3 c κs = let f = fits ((c .before .before .before .before .before .before .before .before .before .before .before)) in (f .in-slot, f .slot-fits)
+put32-requires-3 c κs =
+    let at-lowest-free = c .before .before .before .before .before .before .before .before .before .before .before in
+    let f = fits at-lowest-free in (f .in-slot, f .slot-fits)
 
 add-start : tie.Need-add-start Inv-loop μ-loop
-add-start c = let f = fits ((c .before .before .before .before .before .before .before .before .before .before .before .before .before .before)) .slot-fits in omega arith
+add-start c =
+    let at-lowest-free = c .before .before .before .before .before .before .before .before .before .before .before .before .before .before in
+    let f = fits at-lowest-free .slot-fits in omega arith
 
 add-i : tie.Need-add-i Inv-loop μ-loop
 add-i c = search needs
@@ -57,7 +89,15 @@ loop-less : tie.Need-loop-less Inv-loop μ-loop
 loop-less c = search needs
 
 loop-again : tie.Need-loop-again Inv-loop μ-loop
-loop-again c = placing-turn (c .before .before .before .before .before .before .before .before .before .before .before .before .before .before .before .before .before .before .before .before .before .before .before .before .before .pre) (c .before .before .before .before .before .before .before .before .before .before .before .before .before .before .before .before .before .before .before .loop .inv) (c .before .before .before .before .before .before .before .before .before .before .before .before .before .before .before .before .before .before .loop-test .taken) (slot ((c .before .before .before .before .before .before .before .before .before .before .before .before .before .before))) (c .before .before .before .before .before .before .before .before .before .before .before .before .before .before .lowest-free .ensures) (c .before .before .before .before .before .before .before .before .before .before .before .before .before .before .lowest-free .kept .1 .0) (c .before .before .before .before .before .before .before .before .before .before .before .before .before .before .before .before .before .get32 .ensures .0) (c .before .before .before .before .before .before .before .before .before .before .put32 .ensures) (c .before .before .before .before .before .before .put322 .ensures) (c .before .before .put323 .ensures)
+loop-again c =
+    let at-put322 = c .before .before .before .before .before .before in
+    let at-put32 = at-put322 .before .before .before .before in
+    let at-lowest-free = at-put32 .before .before .before .before in
+    let at-get32 = at-lowest-free .before .before .before in
+    let test = at-get32 .before in
+    let loop = test .before in
+    let start = loop .before .before .before .before .before .before in
+    placing-turn (start .pre) (loop .loop .inv) (test .loop-test .taken) (slot at-lowest-free) (at-lowest-free .lowest-free .ensures) (at-lowest-free .lowest-free .kept .1 .0) (at-get32 .get32 .ensures .0) (at-put32 .put32 .ensures) (at-put322 .put322 .ensures) (c .before .before .put323 .ensures)
 
 same-length : tie.Need-same-length Inv-loop μ-loop
 same-length c = c .before .loop .inv .long-rows

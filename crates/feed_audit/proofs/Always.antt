@@ -1,0 +1,169 @@
+-- WHAT STANDS IS WHAT IS DISSOLVED AFRESH: of a checked table and a newly opened state an audit never says that the two differ.
+--     same-self       an outline that is read out is the same as itself
+--     afresh-again    the held cells, dissolved in the state's own memory, give what read out gives
+--     always-same     so the audit says that the two are the same
+-- Assumes nothing.
+use Prim.Native.Nat.{ℕ}
+use mathlib.Core.Path.{_≡_, refl, sym, _∙_, ap}
+use mathlib.Core.Bool.{Bool, true, _&&_}
+use mathlib.Core.List.{List, [], _∷_}
+use lib.Dec.{eqb}
+use lib.Ieee.{Float}
+use lib.ListN.{length}
+use borrow.Author.Tests.{eq-eqb}
+use Rattle.scope.specs.declared.Verdict.{Verdict}
+use Rattle.scope.specs.declared.Verdict.the-variants.{Accepted, Refused}
+use Rattle.scope.specs.declared.ReadOut.{ReadOut}
+use Rattle.scope.specs.declared.ReadOut.the-variants as readout
+use Rattle.scope.specs.declared.ReadOut.the-variants.{Nothing, Closed, Outline}
+use Rattle.scope.specs.Lists.{at, passes}
+use Rattle.scope.specs.Answers.{ifAccepted, verdictOf, kindOf, polygonsOf, ringsOf}
+use Rattle.scope.specs.Bytes.{areaBits}
+use Rattle.scope.specs.Table.{Table}
+use Rattle.scope.specs.Memory.{Memory, Output, opened, heldCells, places, slots, lengthsFit, modeFits}
+use Rattle.scope.specs.Pool.{taking}
+use Rattle.scope.specs.Order.{view}
+use Rattle.scope.specs.Calls.{Outcome, outcome, openVerdict, opening, offerVerdict, offering, offeringAll, Reading, readFrom, reading, readVerdict, readingOut, dissolving}
+use Rattle.scope.proofs.Tests.{and-both}
+use Rattle.scope.proofs.Scan.{passes-all}
+use Rattle.scope.proofs.Verdicts.{both-accept, require-accepts}
+use Rattle.scope.proofs.Lengths.{Lengths, lengths-kept}
+use Rattle.scope.proofs.Sound.{offered}
+use Rattle.scope.proofs.Taking.{taken-room}
+use Rattle.scope.proofs.TakingRules.{pool-same}
+use Rattle.scope.proofs.TakingCells.{Shown}
+use Rattle.scope.proofs.Run.{refused-not, all-shown, read-leaves, read-accepts}
+use Rattle.scope.proofs.Dissolving.{opened-places, opened-slots, open-table, open-lengths, open-shown, dissolve-is}
+use Rattle.taking.proofs.Sizes.{Sized, opened-same}
+use Rattle.audit.specs.Feed.{leftBy, acceptedOf, feeding}
+use Rattle.audit.specs.Same.{sameAt, sameNumbers, bitsAt, sameBitsAt, sameAreas, sameOutput, sameAnswer}
+use Rattle.audit.proofs.FromOpened.{accepted-all, held-are}
+use Rattle.feed_audit.specs.Audit.{Begun, beginning, checking}
+use Rattle.feed_audit.proofs.Halves.{begunBy}
+
+-- ---- an outline is the same as itself
+
+numbers-self : (a : List ℕ) → sameNumbers a a ≡ true
+unfolding sameNumbers
+numbers-self a =
+    and-both (eqb (length a) (length a)) (passes (sameAt a a) (length a)) (eq-eqb (length a) (length a) refl)
+    (passes-all (sameAt a a) (length a) (λ k h. eq-eqb (at a k) (at a k) refl))
+
+areas-self : (a : List Float) → sameAreas a a ≡ true
+unfolding sameAreas
+areas-self a =
+    and-both (eqb (length a) (length a)) (passes (sameBitsAt a a) (length a)) (eq-eqb (length a) (length a) refl)
+    (passes-all (sameBitsAt a a) (length a) (λ k h. eq-eqb (bitsAt a k) (bitsAt a k) refl))
+
+output-self : (o : Output) → sameOutput o o ≡ true
+unfolding sameOutput
+output-self o =
+    and-both _ _ (and-both _ _ (and-both _ _ (and-both _ _ (numbers-self (o .start)) (numbers-self (o .size))) (numbers-self (o .group))) (areas-self (o .area)))
+    (numbers-self (o .edges))
+
+self : (n : ℕ) → eqb n n ≡ true
+self n = eq-eqb n n refl
+
+answer-self : (r : ReadOut) → verdictOf r ≡ Accepted → sameAnswer r r ≡ true
+unfolding sameAnswer verdictOf kindOf polygonsOf ringsOf
+answer-self Nothing e = rw (self (areaBits Nothing))
+answer-self Closed e = rw (self (areaBits Closed))
+answer-self (Outline polygons rings area) e = rw (self polygons, self rings, self (areaBits (Outline polygons rings area)))
+answer-self (readout.Refused number index) e = refused-not e
+
+abbrev sameReading : Reading → Reading → Bool
+sameReading r s = sameAnswer (r .answer) (s .answer) && sameOutput (r .out) (s .out)
+
+pub same-self : (r : Reading) → verdictOf (r .answer) ≡ Accepted → sameReading r r ≡ true
+same-self r e = and-both _ _ (answer-self (r .answer) e) (output-self (r .out))
+
+-- ---- offers leave the capacities
+
+module _ (t : Table) where
+  offer-sizes : (m : Memory) (x : ℕ) → (places (offering t m x .left) ≡ places m) × (slots (offering t m x .left) ≡ slots m)
+  unfolding offering
+  offer-sizes m x = go (offerVerdict t m x) refl
+    where
+      go : (v : Verdict) → offerVerdict t m x ≡ v → (places (ifAccepted v (taking t m x) m) ≡ places m) × (slots (ifAccepted v (taking t m x) m) ≡ slots m)
+      go Accepted e = (taken-room (offered t m x e), pool-same (offered t m x e))
+      go (Refused number index) e = (refl, refl)
+
+  feed-sizes : (m : Memory) (xs : List ℕ) → (places (leftBy t m xs) ≡ places m) × (slots (leftBy t m xs) ≡ slots m)
+  unfolding leftBy
+  feed-sizes m [] = (refl, refl)
+  feed-sizes m (x ∷ xs) = let first = offer-sizes m x in let rest = feed-sizes (offering t m x .left) xs in (rest .0 ∙ first .0, rest .1 ∙ first .1)
+
+  -- lengths that fit one table are told by the capacities
+  sized-by : {m k : Memory} → Lengths t m → Lengths t k → places k ≡ places m → slots k ≡ slots m → Sized m k
+  sized-by l n p s = record {
+    head = n .head ∙ sym (l .head);
+    cells = p;
+    parent = n .parent ∙ p ∙ sym (l .parent);
+    rank = n .rank ∙ p ∙ sym (l .rank);
+    cell-mark = n .cell-mark ∙ p ∙ sym (l .cell-mark);
+    slot-row = s;
+    slot-cell = n .slot-cell ∙ s ∙ sym (l .slot-cell);
+    prev = n .prev ∙ s ∙ sym (l .prev);
+    next = n .next ∙ s ∙ sym (l .next);
+    row-slot = n .row-slot ∙ sym (l .row-slot);
+    row-mark = n .row-mark ∙ sym (l .row-mark);
+  }
+
+-- ---- from a newly opened state
+
+module _ (t : Table) (m : Memory) (opens : openVerdict t m 2 ≡ Accepted) (xs : List ℕ) where
+  abbrev fresh : Memory
+  fresh = opened 2 m
+
+  abbrev last : Memory
+  last = leftBy t fresh xs
+
+  abbrev taken : List ℕ
+  taken = acceptedOf t fresh xs
+
+  all-taken : offeringAll t fresh taken .answer ≡ Accepted
+  all-taken = ap (λ (o : Outcome). o .answer) (accepted-all t fresh xs)
+
+  leaves-last : offeringAll t fresh taken .left ≡ last
+  leaves-last = ap (λ (o : Outcome). o .left) (accepted-all t fresh xs)
+
+  last-lengths : Lengths t last
+  last-lengths = (rw leaves-last at (all-shown t fresh [] taken (open-shown t m 2 opens) all-taken)) .sound .lengths
+
+  opens-again : openVerdict t last 2 ≡ Accepted
+  unfolding openVerdict
+  opens-again = both-accept _ _ (require-accepts (lengthsFit t last && modeFits 2) 10 0 (and-both _ _ (lengths-kept t last last-lengths) refl)) (open-table t m 2 opens)
+
+  same-opened : opened 2 last ≡ fresh
+  same-opened =
+      let sizes = feed-sizes t fresh xs in
+      opened-same 2 (sized-by t (open-lengths t m 2 opens) last-lengths (sizes .0 ∙ opened-places m 2) (sizes .1 ∙ opened-slots m 2))
+
+  again-last : offeringAll t (opened 2 last) taken .left ≡ last
+  again-last = ap (λ (k : Memory). offeringAll t k taken .left) same-opened ∙ leaves-last
+
+  again-taken : offeringAll t (opened 2 last) taken .answer ≡ Accepted
+  again-taken = ap (λ (k : Memory). offeringAll t k taken .answer) same-opened ∙ all-taken
+
+  module _ (o : Output) (r : readVerdict t last o ≡ Accepted) where
+    pub afresh-again : dissolving t last 2 (heldCells last) o ≡ readingOut t last o
+    afresh-again =
+        ap (λ (cs : List ℕ). dissolving t last 2 cs o) (held-are t m 2 opens xs)
+        ∙ dissolve-is t last 2 taken o opens-again again-taken (ap (λ (k : Memory). readVerdict t k o) again-last ∙ r)
+        ∙ ap (λ (k : Memory). readingOut t k o) again-last
+
+    read-done : verdictOf (readingOut t last o .answer) ≡ Accepted
+    unfolding readingOut
+    read-done = ap (λ (v : Verdict). verdictOf (reading v (readFrom t last o) last o .answer)) r ∙ read-accepts t (view t last)
+
+    -- what is said of the outline that is read out after the feed
+    abbrev judged : Begun → Bool
+    judged begun = let read = readingOut t (begun .fed .left) o in checking t (read .answer) (read .out) (read .left) o .same
+
+    pub always-same : judged (beginning t m xs) ≡ true
+    unfolding beginning checking opening feeding
+    always-same =
+        ap (λ (v : Verdict). judged (begunBy t m xs (outcome v fresh m))) opens
+        ∙ ap (λ (k : Memory). sameReading (readingOut t last o) (dissolving t k 2 (heldCells k) o)) (read-leaves t last o)
+        ∙ ap (sameReading (readingOut t last o)) afresh-again
+        ∙ same-self (readingOut t last o) read-done

@@ -1,7 +1,7 @@
 -- `report::refusals/put_place` meets its contract. By the number.
 -- Assumes nothing.
 use borrow.Author.Needs.{needs}
-use Rattle.text.proofs.Writing.{wrote-more}
+use Rattle.text.proofs.Writing.{wrote-none, wrote-more}
 use borrow.Author.Tests.{eq-eqb, ne-eqb}
 use Rattle.report.specs.Refusals.{refusalPlace}
 use Rattle.report.proofs.refusals.put_place.Statement.{statement}
@@ -43,14 +43,27 @@ same-length-2 c = search needs
 
 returns-2 : tie.Need-returns-2
 unfolding refusalPlace
-returns-2 c = rw (ne-eqb _ _ (c .before .before .before .before .before .before .before .before .before .before .before .if1 .left), c .before .before .before .before .before .before .if2 .taken) (wrote-more (c .before .before .before .before .before .before .before .before .before .put-bytes2 .ensures) (c .before .before .put-noted2 .ensures))
+returns-2 c = rw (ne-eqb _ _ (c .before .before .before .before .before .before .before .before .before .before .before .if1 .left), c .before .before .before .before .before .before .before .before .before .before .if2 .taken) (wrote-more (c .before .before .before .before .before .before .before .before .put-bytes2 .ensures) (c .before .before .put-noted2 .ensures))
+
+put-bytes-requires-3 : tie.Need-put-bytes-requires-3
+put-bytes-requires-3 c κs = search needs
+
+slice-aggregate-put-bytes : tie.Need-slice-aggregate-put-bytes
+slice-aggregate-put-bytes c = search needs
+
+put-bytes-requires-4 : tie.Need-put-bytes-requires-4
+put-bytes-requires-4 c κs = search needs
 
 same-length-3 : tie.Need-same-length-3
 same-length-3 c = search needs
 
 returns-3 : tie.Need-returns-3
 unfolding refusalPlace
-returns-3 c = rw (ne-eqb _ _ (c .before .before .before .before .before .if1 .left), c .if2 .left) (c .before .before .before .put-bytes2 .ensures)
+returns-3 c = rw (ne-eqb _ _ (c .before .before .before .before .before .before .before .before .before .before .before .if1 .left), c .before .before .before .before .before .before .before .before .before .before .if2 .left, eq-eqb _ _ (c .before .before .before .before .before .before .before .before .before .if3 .taken)) (wrote-more (c .before .before .before .before .before .before .before .put-bytes3 .ensures) (c .before .before .put-bytes4 .ensures))
+
+returns-4 : tie.Need-returns-4
+unfolding refusalPlace
+returns-4 c = rw (ne-eqb _ _ (c .before .before .if1 .left), c .before .if2 .left, ne-eqb _ _ (c .if3 .left)) (wrote-none _ _ (c .before .before .before .before .before .before .pre))
 
 pub put-place-spec : {M : Type 1} → statement M
 put-place-spec =
@@ -68,5 +81,9 @@ put-place-spec =
     put-noted-requires-2
     same-length-2
     returns-2
+    put-bytes-requires-3
+    slice-aggregate-put-bytes
+    put-bytes-requires-4
     same-length-3
-    returns-3)
+    returns-3
+    returns-4)

@@ -18,8 +18,8 @@ slice-aggregate-put-noted-2 c = search needs
 put-noted-requires : tie.Need-put-noted-requires
 put-noted-requires c κs = search needs
 
-put-words-requires : tie.Need-put-words-requires
-put-words-requires c κs = search needs
+put-reason-requires : tie.Need-put-reason-requires
+put-reason-requires c κs = search needs
 
 slice-aggregate-put-bytes : tie.Need-slice-aggregate-put-bytes
 slice-aggregate-put-bytes c = search needs
@@ -32,7 +32,7 @@ same-length c = search needs
 
 returns : tie.Need-returns
 unfolding refusalText
-returns c = wrote-more (wrote-more (wrote-more (c .before .before .before .before .before .before .before .before .before .before .before .before .before .before .before .before .before .put-place .ensures) (c .before .before .before .before .before .before .before .before .before .before .before .put-noted .ensures)) (c .before .before .before .before .before .before .before .put-words .ensures)) (c .before .before .put-bytes .ensures)
+returns c = wrote-more (wrote-more (wrote-more (c .before .before .before .before .before .before .before .before .before .before .before .before .before .before .before .before .before .put-place .ensures) (c .before .before .before .before .before .before .before .before .before .before .before .put-noted .ensures)) (c .before .before .before .before .before .before .before .put-reason .ensures)) (c .before .before .put-bytes .ensures)
 
 pub put-refusal-spec : {M : Type 1} → statement M
 put-refusal-spec =
@@ -42,7 +42,7 @@ put-refusal-spec =
     slice-aggregate-put-noted
     slice-aggregate-put-noted-2
     put-noted-requires
-    put-words-requires
+    put-reason-requires
     slice-aggregate-put-bytes
     put-bytes-requires
     same-length

@@ -1,16 +1,10 @@
 // The host's limits, refusal 10: whole records, at most 1,024 rows, 1,024 slots, 256 places and 256 cells, and a state's own length.
+use slices::wide32;
 ghost use mathlib.Core.Path.{_≡_};
 ghost use mathlib.Core.Bool.{_&&_};
-ghost use Prim.Native.Nat.{_<_};
 ghost use lib.Dec.{eqb};
 ghost use lib.ListN.{length};
 ghost use Rattle.scope.specs.Bytes.{rowsIn, tableFits, listFits, roomFits, stateSize};
-
-fn wide(x: u32) -> usize
-    ensures { λ r. ⌜ (r ≡ x) × (r < 4294967296) ⌝ }
-{
-    x as usize
-}
 
 fn table_fits(table: &[u8]) -> bool
     ensures { λ r. ⌜ r ≡ tableFits (now (table .entry)) ⌝ }
@@ -34,7 +28,7 @@ fn room_fits(slots: u32, places: u32) -> bool
 fn state_size(table: &[u8], slots: u32, places: u32) -> usize
     ensures { λ r. ⌜ r ≡ stateSize (rowsIn (now (table .entry))) slots places ⌝ }
 {
-    8 + 20 * wide(places) + 16 * wide(slots) + 8 * (table.len() / 20)
+    8 + 20 * wide32(places) + 16 * wide32(slots) + 8 * (table.len() / 20)
 }
 
 pub fn dissolve_fits(table: &[u8], cells: &[u8], slots: u32, places: u32) -> bool

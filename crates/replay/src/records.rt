@@ -4,6 +4,7 @@ use check::same;
 use codec::read_u32;
 use codec::read_u64;
 use host::bytes::zone_dissolve;
+use slices::wide32;
 ghost use mathlib.Core.Path.{_≡_};
 ghost use Prim.Native.Nat.{_+_, _≤_, _<_, _^_};
 ghost use lib.ListN.{length};
@@ -12,12 +13,6 @@ pub(crate) struct Tally {
     pub answers: u64,
     pub otherwise: u64,
     pub told: u64,
-}
-
-fn wide(x: u32) -> usize
-    ensures { λ r. ⌜ r < 2 ^ 32 ⌝ }
-{
-    x as usize
 }
 
 fn output_room() -> [u8; 24624]
@@ -62,10 +57,10 @@ fn bounds_of(head: &[u8], input: usize) -> Bounds
     requires { ⌜ (32 ≤ length (now head)) × (input < 2 ^ 63) ⌝ }
     ensures { λ r. ⌜ (input ≤ r .output) × (r .output ≤ r .end) ⌝ }
 {
-    let output = input + wide(read_u32(head, 24));
+    let output = input + wide32(read_u32(head, 24));
     Bounds {
         output,
-        end: output + wide(read_u32(head, 28)),
+        end: output + wide32(read_u32(head, 28)),
     }
 }
 

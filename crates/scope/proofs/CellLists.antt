@@ -1,6 +1,7 @@
 -- A cell list that passes 2, 3, 4, the second 3 and 8, as facts at each index.
 --     ListGood          the facts; `apart` holds in even mode too, where no cell is finer than another
 --     list-good, list-accepted     a list passes exactly where it has them
+--     invalid-first     2 is told before 3, 4 and 8
 --     prefix-accepted   the first cells of a list that passes
 -- Assumes nothing.
 use Prim.Native.Nat.{ℕ, suc, _+_, _<_, _≤_}
@@ -12,9 +13,9 @@ use native.Mathlib.Decide.{decLt}
 use native.Mathlib.Omega.{arith}
 use lib.Dec.{eqb, leb, ltb}
 use lib.ListN.{length, List·getD-append, length-append}
-use borrow.Author.Tests.{eq-eqb, ne-eqb, le-ltb, le-leb, eqb-true, leb-true}
+use borrow.Author.Tests.{eq-eqb, ne-eqb, lt-ltb, le-ltb, le-leb, eqb-true, leb-true}
 use Rattle.scope.specs.declared.Verdict.{Verdict}
-use Rattle.scope.specs.declared.Verdict.the-variants.{Accepted}
+use Rattle.scope.specs.declared.Verdict.the-variants.{Accepted, Refused}
 use Rattle.scope.specs.Lists.{at, firstBad, passes}
 use Rattle.scope.specs.Answers.{require, requireNone, _▷_}
 use Rattle.scope.specs.Cells.{resolutionOf, validCell, under}
@@ -68,6 +69,10 @@ not-true false e = refl
 -- ---- the whole list
 
 module _ (mode target capacity : ℕ) (cs : List ℕ) where
+  pub invalid-first : firstBad (validAt cs) (length cs) < length cs → listVerdict mode target capacity cs ≡ Refused 2 (firstBad (validAt cs) (length cs))
+  unfolding listVerdict
+  invalid-first h = rw (lt-ltb (firstBad (validAt cs) (length cs)) (length cs) h)
+
   pub list-good : listVerdict mode target capacity cs ≡ Accepted → ListGood mode target capacity cs
   unfolding listVerdict
   list-good e =

@@ -104,13 +104,3 @@ pub mod RoundTrip
 pub mod PastHeld
 pub mod ByteStates
 pub mod ByteRuns
--- The worked examples
-pub mod Computing
-pub mod ExampleKinds
-pub mod ExampleTest
-pub mod Seven
-pub mod Odd
-pub mod Mixed
-pub mod MoreExamples
-pub mod Examples
-pub mod ByteExamples

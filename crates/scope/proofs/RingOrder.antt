@@ -3,6 +3,7 @@
 -- Assumes nothing.
 use Prim.Native.Nat.{ℕ}
 use mathlib.Core.Path.{_≡_}
+use mathlib.Core.Bool.{true, false}
 use mathlib.Core.List.{List}
 use Rattle.scope.specs.Area.{areaLe}
 use Rattle.scope.specs.Order.{View, by, areaAt, outerAt, withinPolygon, polygonOrder, ringOrder, lowestRows, ordered}
@@ -11,6 +12,10 @@ use Rattle.scope.proofs.Sorted.{Perm, Ascends, sort-perm, sort-ascends,
 use Rattle.scope.proofs.AreaOrder.{order-area}
 
 module _ (v : View) where
+  -- of a polygon's rings the one with the smaller area stands first
+  pub smaller-first : (p q : ℕ) → areaLe (areaAt v p) (areaAt v q) ≡ true → areaLe (areaAt v q) (areaAt v p) ≡ false → withinPolygon v p q ≡ true
+  smaller-first p q s t = rw (s, t)
+
   pub order-within : Order (withinPolygon v)
   order-within = order-thenBy (order-by (areaAt v) order-area) order-leb
 

@@ -7,13 +7,13 @@ use mathlib.Core.List.{List, [], _∷_, _++_}
 use lib.Ieee as Ieee
 use lib.Dec.{eqb}
 use lib.ListN.{set, take, replicate}
 use Rattle.scope.specs.Lists as Lists
 use Rattle.scope.specs.Lists.{at, tabulateFrom}
 use Rattle.scope.specs.Answers as Answers
 use Rattle.scope.specs.Bytes as Bytes
 use Rattle.scope.specs.Bytes.{Left, u32At, u64At, bytes32, bytes64, joined, tableIn, stateIn, stateBytes, tableFits, listFits, roomFits, zoneDissolving, zoneStanding}
-use Rattle.scope.proofs.Computing as Computing
-use Rattle.scope.proofs.Odd.{edgeNumbers, reverseRows}
+use Rattle.scope_examples.proofs.Computing as Computing
+use Rattle.scope_examples.proofs.Odd.{edgeNumbers, reverseRows}
 
 -- ---- the definitions, with all that they compute with
 

@@ -4,12 +4,12 @@
 use Prim.Native.Nat.{ℕ}
 use mathlib.Core.List.{List, [], _∷_}
 use lib.ListN.{take}
 use Rattle.scope.specs.Table.{table}
-use Rattle.scope.proofs.ExampleKinds.{Example, validCells, validEdges, pentagons, nests, walks, compares, finds, surrounds, opens, shortens, misfits, offers, unites, refuses, intrudes, reads, breaks, dissolves, rejects, lists, joins}
-use Rattle.scope.proofs.ExampleKinds.{Offers, inMode, even, closed, refused, outlined, put, head, cells, parent, rank, cellMark, slotRow, slotCell, prev, next, rowSlot, rowMark}
-use Rattle.scope.proofs.Seven.{seven, around}
-use Rattle.scope.proofs.Mixed.{mixed, coarse, inside, beside, overBeside}
-use Rattle.scope.proofs.Odd.{odd, fewReverses, fewTerms, withEdge, withReverse, withTerm, first, second, third, absent, underFirst, alsoUnderFirst, underSecond}
+use Rattle.scope_examples.proofs.ExampleKinds.{Example, validCells, validEdges, pentagons, nests, walks, compares, finds, surrounds, opens, shortens, misfits, offers, unites, refuses, intrudes, reads, breaks, dissolves, rejects, lists, joins}
+use Rattle.scope_examples.proofs.ExampleKinds.{Offers, inMode, even, closed, refused, outlined, put, head, cells, parent, rank, cellMark, slotRow, slotCell, prev, next, rowSlot, rowMark}
+use Rattle.scope_examples.proofs.Seven.{seven, around}
+use Rattle.scope_examples.proofs.Mixed.{mixed, coarse, inside, beside, overBeside}
+use Rattle.scope_examples.proofs.Odd.{odd, fewReverses, fewTerms, withEdge, withReverse, withTerm, first, second, third, absent, underFirst, alsoUnderFirst, underSecond}
 
 -- the standing edges of the 49 cells of resolution 9 under 872830828ffffff, and of the 41 of resolution 2 under the pentagon 08009fffffffffff, in
 -- the order of their one ring, as real tables of these resolutions have them

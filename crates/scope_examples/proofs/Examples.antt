@@ -4,13 +4,13 @@ use Prim.Native.Nat.{ℕ}
 use mathlib.Core.List.{List, [], _∷_, _++_}
 use lib.Dec.{T}
 use lib.ListN.{take, drop}
-use Rattle.scope.proofs.ExampleKinds.{Example, walks, adds, surrounds, offers, refuses, reads, dissolves}
-use Rattle.scope.proofs.ExampleKinds.{Offers, even, nothing, outlined}
-use Rattle.scope.proofs.ExampleTest.{every}
-use Rattle.scope.proofs.MoreExamples.{bounds, states, coarser}
-use Rattle.scope.proofs.Seven.{seven, centre, around}
-use Rattle.scope.proofs.Mixed.{mixed, coarse, inside, beside, overBeside}
-use Rattle.scope.proofs.Odd.{odd, fewReverses, fewTerms, withEdge, withReverse, withTerm, first, second, third, absent, underFirst, alsoUnderFirst, underSecond}
+use Rattle.scope_examples.proofs.ExampleKinds.{Example, walks, adds, surrounds, offers, refuses, reads, dissolves}
+use Rattle.scope_examples.proofs.ExampleKinds.{Offers, even, nothing, outlined}
+use Rattle.scope_examples.proofs.ExampleTest.{every}
+use Rattle.scope_examples.proofs.MoreExamples.{bounds, states, coarser}
+use Rattle.scope_examples.proofs.Seven.{seven, centre, around}
+use Rattle.scope_examples.proofs.Mixed.{mixed, coarse, inside, beside, overBeside}
+use Rattle.scope_examples.proofs.Odd.{odd, fewReverses, fewTerms, withEdge, withReverse, withTerm, first, second, third, absent, underFirst, alsoUnderFirst, underSecond}
 
 onSeven : ℕ → List ℕ → Offers
 onSeven slots cs = even seven slots 7 3 30 cs

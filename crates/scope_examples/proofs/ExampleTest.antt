@@ -7,14 +7,14 @@ use lib.Dec.{eqb}
 use lib.Ieee as Ieee
 use lib.Ieee.{binary64}
 use lib.ListN.{length, take, drop, getD, set}
 use Rattle.scope.specs.declared.Verdict.{Verdict}
 use Rattle.scope.specs.Lists.{headOr, below}
 use Rattle.scope.specs.Answers.{refusalOf, indexOf, kindOf, verdictOf, polygonsOf, ringsOf, areaIn}
 use Rattle.scope.specs.Cells.{edgeNumber, resolutionOf}
 use Rattle.scope.specs.Memory.{Memory, memory, Output, output, keptMode}
 use Rattle.scope.specs.Calls.{Outcome, Reading, over}
-use Rattle.scope.proofs.Computing.{isCell, isEdge, isUnder, walked, summed, noLarger, found, ringsAfresh, groupsAfresh, lent, space, opened, listed, joined, offer, offerAll, read, dissolved}
-use Rattle.scope.proofs.ExampleKinds.{Offers, Shown, refused, Slice, Change, Example, head, cells, parent, rank, cellMark, slotRow, slotCell, prev, next, rowSlot, rowMark, validCells, validEdges, pentagons, nests, walks, adds, compares, finds, surrounds, opens, shortens, misfits, offers, unites, refuses, intrudes, reads, breaks, dissolves, rejects, lists, joins}
+use Rattle.scope_examples.proofs.Computing.{isCell, isEdge, isUnder, walked, summed, noLarger, found, ringsAfresh, groupsAfresh, lent, space, opened, listed, joined, offer, offerAll, read, dissolved}
+use Rattle.scope_examples.proofs.ExampleKinds.{Offers, Shown, refused, Slice, Change, Example, head, cells, parent, rank, cellMark, slotRow, slotCell, prev, next, rowSlot, rowMark, validCells, validEdges, pentagons, nests, walks, adds, compares, finds, surrounds, opens, shortens, misfits, offers, unites, refuses, intrudes, reads, breaks, dissolves, rejects, lists, joins}
 
 -- ---- equality and tests over lists, computed
 

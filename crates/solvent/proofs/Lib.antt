@@ -1,6 +1,3 @@
--- Laws that the proofs of the calls share.
-pub mod Opening
-pub mod Offers
-pub mod ReadOuts
+-- Laws that the proof of dissolve uses, and what the promises of the four calls allow.
 pub mod Dissolves
 pub mod Determined

@@ -1,12 +1,12 @@
--- `solvent::read_out` meets its contract. Its tests, and the reading behind them.
+-- `standing::read_out` meets its contract. Its tests, and the reading behind them.
 -- Assumes nothing.
 use borrow.Author.Needs.{needs}
 use Rattle.scope.specs.Table.{table}
 use Rattle.scope.specs.Memory.{memory, output}
 use mathlib.Core.Path.{_≡_, refl, sym, _∙_, ap}
-use Rattle.solvent.proofs.ReadOuts.{readable, read-out-is}
-use Rattle.solvent.proofs.read_out.Statement.{statement}
-use Rattle.solvent.proofs.read_out.Tie as tie
+use Rattle.standing.proofs.ReadOuts.{readable, read-out-is}
+use Rattle.standing.proofs.read_out.Statement.{statement}
+use Rattle.standing.proofs.read_out.Tie as tie
 
 three-agree-requires : tie.Need-three-agree-requires
 three-agree-requires c κs = search needs

@@ -1,13 +1,13 @@
--- `solvent::offer` meets its contract. Refused by a test before the outline, or the cell is taken.
+-- `standing::offer` meets its contract. Refused by a test before the outline, or the cell is taken.
 -- Assumes nothing.
 use borrow.Author.Needs.{needs}
 use Rattle.scope.specs.Table.{table}
 use Rattle.scope.specs.Memory.{memory}
 use mathlib.Core.Path.{_≡_, refl, sym, _∙_, ap}
 use Rattle.scope.proofs.Tests.{fails, holds}
-use Rattle.solvent.proofs.Offers.{offer-stops, offer-asks, offer-taken}
-use Rattle.solvent.proofs.offer.Statement.{statement}
-use Rattle.solvent.proofs.offer.Tie as tie
+use Rattle.standing.proofs.Offers.{offer-stops, offer-asks, offer-taken}
+use Rattle.standing.proofs.offer.Statement.{statement}
+use Rattle.standing.proofs.offer.Tie as tie
 
 admit-verdict-requires : tie.Need-admit-verdict-requires
 admit-verdict-requires c κs = search needs

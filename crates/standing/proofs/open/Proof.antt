@@ -1,13 +1,13 @@
--- `solvent::open` meets its contract. The pool is opened where both tests accept.
+-- `standing::open` meets its contract. The pool is opened where both tests accept.
 -- Assumes nothing.
 use borrow.Author.Needs.{needs}
 use Rattle.scope.specs.Table.{table}
 use Rattle.scope.specs.Memory.{memory}
 use mathlib.Core.Path.{_≡_, refl, sym, _∙_, ap}
 use Rattle.admission.proofs.Fitting.{lengths-are}
-use Rattle.solvent.proofs.Opening.{head-two, opens, opens-not}
-use Rattle.solvent.proofs.open.Statement.{statement}
-use Rattle.solvent.proofs.open.Tie as tie
+use Rattle.standing.proofs.Opening.{head-two, opens, opens-not}
+use Rattle.standing.proofs.open.Statement.{statement}
+use Rattle.standing.proofs.open.Tie as tie
 
 both-agree-requires : tie.Need-both-agree-requires
 both-agree-requires c κs = search needs

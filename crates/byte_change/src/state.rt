@@ -1,9 +1,9 @@
 // A change of a decoded state, open or offer, and the state back into its bytes unless the call is refused.
+use answers::is_accepted;
 use scope::Verdict;
 use solvent::offer;
 use solvent::open;
 use wire::columns::encode_state;
-use wire::numbers::is_accepted;
 use wire::numbers::result;
 ghost use mathlib.Core.Path.{_≡_};
 ghost use mathlib.Core.List.{[]};

@@ -13,10 +13,10 @@ ghost use Rattle.scope.specs.CellLists.{listVerdict};
 ghost use Rattle.scope.specs.Memory.{memory};
 ghost use Rattle.scope.specs.Rules.{ownedBy, linkUsed, freeKept, clearedAt, isRoot, parentKept, ranksKept, rulesKept};
 ghost use Rattle.rules.specs.Slices.{links, forest, pool, setCount, aheadKept, usedAhead, slotAhead};
+use answers::is_accepted;
 use index::lies_under;
 use index::owner;
 use index::resolution;
-use scope::Verdict;
 use slices::at32;
 use validate::validate;
 
@@ -229,15 +229,6 @@ fn ranks_kept(parent: &[u32], rank: &[u32], held: usize) -> bool
         place += 1;
     }
     ranks + roots <= held
-}
-
-fn is_accepted(verdict: Verdict) -> bool
-    ensures { λ b. ⌜ b ≡ isAccepted verdict ⌝ }
-{
-    match verdict {
-        Verdict::Accepted => true,
-        Verdict::Refused(_, _) => false,
-    }
 }
 
 // Held cells pass 2, 3 and 4.

@@ -1,6 +1,6 @@
 // What read out and dissolve answer at full size, told as numbers: the result, and a summary of four numbers.
+use answers::is_accepted;
 use scope::ReadOut;
-use wire::numbers::is_accepted;
 use wire::numbers::result;
 use wire::numbers::summarise;
 use wire::numbers::verdict_of;

@@ -4,17 +4,8 @@ use scope::ReadOut;
 use scope::Verdict;
 ghost use mathlib.Core.Path.{_≡_};
 ghost use Prim.Native.Nat.{_≤_, _<_, _^_};
-ghost use Rattle.scope.specs.Answers.{refusalOf, kindOf, verdictOf, polygonsOf, ringsOf, isAccepted, require, _▷_};
+ghost use Rattle.scope.specs.Answers.{refusalOf, kindOf, verdictOf, polygonsOf, ringsOf, require, _▷_};
 ghost use Rattle.scope.specs.Bytes.{in32, resultOf, areaBits};
-
-pub fn is_accepted(verdict: Verdict) -> bool
-    ensures { λ r. ⌜ r ≡ isAccepted verdict ⌝ }
-{
-    match verdict {
-        Verdict::Accepted => true,
-        Verdict::Refused(_, _) => false,
-    }
-}
 
 // An index in 32 bits; the largest stands for all past it.
 fn index_in_32(n: usize) -> u64

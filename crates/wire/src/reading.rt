@@ -1,9 +1,9 @@
 // What read out and dissolve write into the bytes of an output: a summary, the rings, the edges.
-use crate::numbers::is_accepted;
 use crate::numbers::result;
 use crate::numbers::summarise;
 use crate::numbers::then_fits;
 use crate::numbers::verdict_of;
+use answers::is_accepted;
 use codec::bits_of;
 use codec::encode_u32s;
 use codec::write_u32;

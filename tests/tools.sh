@@ -1,0 +1,166 @@
+#!/usr/bin/env bash
+# The tools on their samples and on damaged files: what each writes to standard output, its one line on standard error, its exit status.
+# The tools are in target/bin: `rt check` or .ci/run has built them.
+set -u
+cd "$(dirname "$0")/.." || exit 2
+table=samples/city.table
+zone=samples/zone.cells
+work=$(mktemp -d) || exit 2
+trap 'rm -rf "$work"' EXIT
+tests=0
+failures=0
+
+# run COMMAND...: what it writes, and its exit status
+run() {
+  tests=$((tests + 1))
+  "$@" >"$work/out" 2>"$work/err"
+  status=$?
+}
+
+fault() {
+  failures=$((failures + 1))
+  echo "FAILED: $1"
+  echo "  status $status"
+  sed 's/^/  out: /' "$work/out" | head -n 5
+  sed 's/^/  err: /' "$work/err" | head -n 5
+}
+
+# same FILE COMMAND...: ends well, and writes just what the file holds
+same() {
+  local file=$1
+  shift
+  run "$@"
+  [ "$status" -eq 0 ] && [ ! -s "$work/err" ] && cmp -s "$file" "$work/out" || fault "$*"
+}
+
+# tells LINE COMMAND...: ends well, and the line is among what it writes
+tells() {
+  local line=$1
+  shift
+  run "$@"
+  [ "$status" -eq 0 ] && [ ! -s "$work/err" ] && grep -qxF -- "$line" "$work/out" || fault "$*"
+}
+
+# refused LINE COMMAND...: writes this line to standard error, and nothing else
+refused() {
+  local line=$1
+  shift
+  run "$@"
+  [ "$status" -eq 1 ] && [ ! -s "$work/out" ] && [ "$(cat "$work/err")" = "$line" ] || fault "$*"
+}
+
+# ends COMMAND...: does its work or says one line, and does not crash
+ends() {
+  run "$@"
+  if [ "$status" -eq 0 ]; then [ ! -s "$work/err" ]; else [ "$status" -eq 1 ] && [ "$(wc -l <"$work/err")" -eq 1 ] && [ ! -s "$work/out" ]; fi || fault "$*"
+}
+
+# ---- what is damaged: a table cut off, empty, one row too long, with a row out of order; lists of all kinds
+
+head -c 42235 "$table" >"$work/cut.table"
+: >"$work/empty"
+{ cat "$table"; head -c 20 "$table"; } >"$work/unordered.table"
+yes x | head -c 1400000 >"$work/long"
+head -c 4000 /bin/sh >"$work/binary"
+printf '8928308280fffff\r\n# a comment\n\n 0x8928308283bffff  # another\n' >"$work/good.cells"
+printf '8928308280fffff\nxyz\n' >"$work/word.cells"
+printf '8928308280fffff\n\n0x8928308280fffff\n' >"$work/twice.cells"
+printf '8928308280fffff\n8828308281fffff\n' >"$work/coarse.cells"
+printf '8928308280fffff\n123\n' >"$work/invalid.cells"
+printf '89283470803ffff\n' >"$work/elsewhere.cells"
+seq 1 16385 | sed 's/.*/8928308280fffff/' >"$work/many.cells"
+
+# ---- outline
+
+usage='outline: a TABLE and a CELLS file are wanted; outline --help says more'
+same crates/outline/stdout bin/outline crates/outline/data/city.table crates/outline/data/zone.cells
+tells 'polygons 2' bin/outline "$table" "$zone"
+tells 'rings 3' bin/outline --mode even "$table" "$zone"
+tells 'standing edges 90' bin/outline "$table" --mode mixed "$zone"
+tells '    296' bin/outline --rows "$table" samples/market.cells
+tells 'cells 2' bin/outline "$table" "$work/good.cells"
+tells 'nothing: the list has no cells' bin/outline "$table" "$work/empty"
+tells 'outline TABLE CELLS [--mode even|mixed] [--rows]' bin/outline --help
+refused "$usage" bin/outline
+refused "$usage" bin/outline "$table"
+refused 'outline: c is one file too many; outline --help says more' bin/outline a b c
+refused 'outline: --colour is no option; outline --help says more' bin/outline --colour "$table" "$zone"
+refused 'outline: after --mode comes even or mixed; outline --help says more' bin/outline "$table" "$zone" --mode
+refused 'outline: odd is no mode, which is even or mixed; outline --help says more' bin/outline "$table" "$zone" --mode odd
+
+# ---- files that no tool can take; each tool takes a table and a list
+
+first_row='the table has fewer than 2 rows or more than 65536, its resolutions are unequal, or this row is no valid edge, is not named back by its reverse row, or has no finite area term'
+later_row='this row (the first is row 0, each has 20 bytes) is no valid edge, is out of order, is not named back by its reverse row, or has no finite area term'
+for tool in outline till_import year_audit; do
+  refused "$work/none: this file cannot be read" bin/$tool "$work/none" "$zone"
+  refused "$work: this file cannot be read" bin/$tool "$work" "$zone"
+  refused "$work/long byte 1310720: this file is too long" bin/$tool "$work/long" "$zone"
+  refused "$work/cut.table byte 42220: this row is cut off, a row has 20 bytes" bin/$tool "$work/cut.table" "$zone"
+  refused "$work/empty row 0: refused 1, $first_row" bin/$tool "$work/empty" "$zone"
+  refused "$work/unordered.table row 2112: refused 1, $later_row" bin/$tool "$work/unordered.table" "$zone"
+  refused "$work/none: this file cannot be read" bin/$tool "$table" "$work/none"
+  refused "$work/long byte 1310720: this file is too long" bin/$tool "$table" "$work/long"
+  refused "$table line 1, byte 1: a cell is 1 to 16 hexadecimal digits, with or without 0x" bin/$tool "$table" "$table"
+  refused "$work/word.cells line 2, byte 1: a cell is 1 to 16 hexadecimal digits, with or without 0x" bin/$tool "$table" "$work/word.cells"
+done
+
+# ---- lists that dissolve refuses, each with the line of the cell
+
+for tool in outline till_import; do
+  refused "$work/twice.cells line 3: refused 3, this cell is there already, or lies under another" bin/$tool "$table" "$work/twice.cells"
+  refused "$work/coarse.cells line 2: refused 4, this cell's resolution does not fit the table" bin/$tool "$table" "$work/coarse.cells"
+  refused "$work/invalid.cells line 2: refused 2, this is no valid cell" bin/$tool "$table" "$work/invalid.cells"
+  refused "$work/elsewhere.cells line 1: refused 5, an edge of this cell's outline is not in the table" bin/$tool "$table" "$work/elsewhere.cells"
+  refused "$work/many.cells line 16385: there are more than 16384 cells" bin/$tool "$table" "$work/many.cells"
+done
+
+# ---- till_import: a zone that cannot be taken leaves the others alone
+
+usage='till_import: a TABLE and one CELLS file or more are wanted; till_import --help says more'
+tells 'till_import TABLE CELLS...' bin/till_import --help
+refused "$usage" bin/till_import
+refused "$usage" bin/till_import "$table"
+tells "$work/empty: nothing, the list has no cells" bin/till_import "$table" "$work/empty"
+bin/till_import "$table" samples/streets.cells samples/market.cells >"$work/both"
+run bin/till_import "$table" samples/streets.cells "$work/twice.cells" "$work/none" samples/market.cells
+[ "$status" -eq 1 ] && cmp -s "$work/both" "$work/out" && [ "$(wc -l <"$work/err")" -eq 2 ] || fault "till_import with two bad zones among good ones"
+
+# ---- year_audit
+
+usage='year_audit: a TABLE and a FEED file are wanted; year_audit --help says more'
+same crates/year_audit/stdout bin/year_audit "$table" samples/year.feed
+tells 'points over 0' bin/year_audit "$table" samples/year.feed
+tells 'year_audit TABLE FEED' bin/year_audit --help
+refused "$usage" bin/year_audit
+refused "$usage" bin/year_audit "$table"
+refused "$usage" bin/year_audit "$table" samples/year.feed "$zone"
+tells 'standing outline: nothing, no cell is held' bin/year_audit "$table" "$work/empty"
+tells 'refused by 3: 1, this cell is there already, or lies under another' bin/year_audit "$table" "$work/twice.cells"
+tells 'refused by 4: 1, this cell'"'"'s resolution does not fit the table' bin/year_audit "$table" "$work/coarse.cells"
+tells 'refused by 2: 1, this is no valid cell' bin/year_audit "$table" "$work/invalid.cells"
+tells 'refused by 3: 16384, this cell is there already, or lies under another' bin/year_audit "$table" "$work/many.cells"
+
+# ---- one byte changed, at places all over a table and a list: each tool does its work, or says one line and writes nothing else
+
+# changed FILE PLACE: a copy with another byte at the place
+changed() {
+  cp "$1" "$work/changed"
+  printf '\\%03o' $(($2 % 256)) | xargs -0 printf | dd of="$work/changed" bs=1 seek="$2" conv=notrunc status=none
+}
+
+for tool in outline till_import year_audit; do
+  for place in $(seq 3 1409 42239); do
+    changed "$table" "$place"
+    ends bin/$tool "$work/changed" "$zone"
+  done
+  for place in $(seq 1 37 1029); do
+    changed "$zone" "$place"
+    ends bin/$tool "$table" "$work/changed"
+  done
+  ends bin/$tool "$work/binary" "$zone"
+  ends bin/$tool "$table" "$work/binary"
+done
+
+echo "$tests tests of the tools, $failures failures"
+[ "$failures" -eq 0 ]

@@ -1,3 +1,2 @@
 -- Laws that the proofs of this crate cite.
-pub mod Loading
 pub mod Reporting

@@ -4,7 +4,8 @@ use native.Mathlib.Omega.{arith}
 use borrow.Author.Needs.{needs}
 use mathlib.Core.Path.{sym}
 use lib.Seq.{length-take-le}
-use Rattle.year_audit.proofs.Loading.{loaded, taken-few}
+use Rattle.desk.proofs.Within.{loaded}
+use Rattle.year_audit.proofs.Loading.{taken-few}
 use Rattle.year_audit.proofs.audit_files.Statement.{statement}
 use Rattle.year_audit.proofs.audit_files.Tie as tie
 

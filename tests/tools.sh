@@ -68,6 +68,8 @@ printf '8928308280fffff\n\n0x8928308280fffff\n' >"$work/twice.cells"
 printf '8928308280fffff\n8828308281fffff\n' >"$work/coarse.cells"
 printf '8928308280fffff\n123\n' >"$work/invalid.cells"
 printf '89283470803ffff\n' >"$work/elsewhere.cells"
+printf '8828308281fffff\n' >"$work/coarser.cells"
+printf '\357\273\2778928308280fffff\n' >"$work/marked.cells"
 seq 1 16385 | sed 's/.*/8928308280fffff/' >"$work/many.cells"
 
 # ---- outline
@@ -77,6 +79,10 @@ same crates/outline/stdout bin/outline crates/outline/data/city.table crates/out
 tells 'polygons 2' bin/outline "$table" "$zone"
 tells 'rings 3' bin/outline --mode even "$table" "$zone"
 tells 'standing edges 90' bin/outline "$table" --mode mixed "$zone"
+tells 'standing edges 18' bin/outline --mode mixed "$table" "$work/coarser.cells"
+refused "$work/coarser.cells line 1: refused 4, this cell's resolution does not fit the table" bin/outline --mode even "$table" "$work/coarser.cells"
+refused "$work/coarser.cells line 1: refused 4, this cell's resolution does not fit the table" bin/outline "$table" "$work/coarser.cells"
+tells 'cells 1' bin/outline "$table" "$work/marked.cells"
 tells '    296' bin/outline --rows "$table" samples/market.cells
 tells 'cells 2' bin/outline "$table" "$work/good.cells"
 tells 'nothing: the list has no cells' bin/outline "$table" "$work/empty"
@@ -87,6 +93,16 @@ refused 'outline: c is one file too many; outline --help says more' bin/outline 
 refused 'outline: --colour is no option; outline --help says more' bin/outline --colour "$table" "$zone"
 refused 'outline: after --mode comes even or mixed; outline --help says more' bin/outline "$table" "$zone" --mode
 refused 'outline: odd is no mode, which is even or mixed; outline --help says more' bin/outline "$table" "$zone" --mode odd
+
+# ---- an answer that cannot be written is not lost without a word
+
+for tool in outline till_import year_audit; do
+  tests=$((tests + 1))
+  bin/$tool "$table" "$zone" >/dev/full 2>"$work/err"
+  status=$?
+  : >"$work/out"
+  [ "$status" -eq 1 ] && [ "$(cat "$work/err")" = 'what there is to say could not be written' ] || fault "$tool to a full disk"
+done
 
 # ---- files that no tool can take; each tool takes a table and a list
 
@@ -101,8 +117,8 @@ for tool in outline till_import year_audit; do
   refused "$work/unordered.table row 2112: refused 1, $later_row" bin/$tool "$work/unordered.table" "$zone"
   refused "$work/none: this file cannot be read" bin/$tool "$table" "$work/none"
   refused "$work/long byte 1310720: this file is too long" bin/$tool "$table" "$work/long"
-  refused "$table line 1, byte 1: a cell is 1 to 16 hexadecimal digits, with or without 0x" bin/$tool "$table" "$table"
-  refused "$work/word.cells line 2, byte 1: a cell is 1 to 16 hexadecimal digits, with or without 0x" bin/$tool "$table" "$work/word.cells"
+  refused "$table line 1, byte 1: a line has one cell, 1 to 16 hexadecimal digits, with or without 0x" bin/$tool "$table" "$table"
+  refused "$work/word.cells line 2, byte 1: a line has one cell, 1 to 16 hexadecimal digits, with or without 0x" bin/$tool "$table" "$work/word.cells"
 done
 
 # ---- lists that dissolve refuses, each with the line of the cell

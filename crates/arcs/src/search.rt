@@ -9,7 +9,7 @@ ghost use Rattle.arcs.specs.Search.{freeFrom, PassedOver, SkipAsks, Skip
 // Slots of a block. A block's flag, where it is not 0, says that no slot of it is free; 0 says nothing.
 pub const BLOCK: usize = 256;
 
-// Two slots are used: a search may go on behind them. Eight at a time are few instructions.
+// Two slots are used: a search may go on behind them. Put together to eight they are few instructions.
 fn two_used(slot_row: &[u32], i: usize) -> bool
     requires { ⌜ i + 2 ≤ length (now «slot_row») ⌝ }
     ensures { λ b. ⌜ PassedOver b (now («slot_row» .entry)) i 2 ⌝ }

@@ -1,6 +1,6 @@
 -- What a comparison says.
 --     numbers-equal                     same numbers place for place are one list
---     first-refused, second-refused     a refusal is the same as nothing, be it another refusal
+--     first-refused, second-refused     a refusal is the same as no other answer, be it another refusal
 -- Assumes nothing.
 use Prim.Native.Nat.{ℕ}
 use mathlib.Core.Path.{_≡_, refl}

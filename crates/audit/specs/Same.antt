@@ -36,7 +36,7 @@ sameOutput o p =
     && sameAreas (o .area) (p .area)
     && sameNumbers (o .edges) (p .edges)
 
--- Both are carried out, and have the same kind, counts and first outer area. A refusal shows no outline, so it is the same as nothing.
+-- Both are carried out, and have the same kind, counts and first outer area. A refusal shows no outline, so it is the same as no other answer.
 unfoldable pub sameAnswer : ReadOut → ReadOut → Bool
 sameAnswer r s =
     isAccepted (verdictOf r)

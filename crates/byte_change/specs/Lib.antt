@@ -1,1 +1,2 @@
+-- What the calls on bytes of this crate leave.
 pub mod Changing

@@ -1,4 +1,4 @@
--- The calls on decoded columns: a slice for each column, as long as the bytes say; at most 1,024 rows.
+-- Room for decoded columns: a slice for each column, as long as the bytes say; at most 1,024 rows.
 -- Assumes nothing.
 use Prim.Native.Nat.{ℕ, _/_, _≤_}
 use mathlib.Core.Path.{_≡_}

@@ -48,13 +48,6 @@ pub fn place_numbers() -> [u32; 16384]
     [0; 16384]
 }
 
-// The areas of an output of at most 16,384 rings, with 3 place_numbers: more than a real table can have.
-pub fn place_floats() -> [f64; 16384]
-    ensures { λ r. ⌜ 16384 ≡ length r ⌝ }
-{
-    [0.0; 16384]
-}
-
 // The lines of a list's cells.
 pub fn place_lines() -> [usize; 16384]
     ensures { λ r. ⌜ 16384 ≡ length r ⌝ }

@@ -1,6 +1,6 @@
 // What the tools share: files loaded into lent slices, arrays of full size, words to standard output and standard error. A file that cannot
 // be taken is answered with the one line that says why. What becomes of the bytes is the promise of the functions called; no contract
-// can say which bytes a file or an argument has.
+// can say which bytes a file has.
 pub mod arrays;
 pub mod words;
 
@@ -17,24 +17,12 @@ use table_bytes::read_table;
 use words::complain_text;
 ghost use Prim.Native.Nat.{_≤_};
 ghost use lib.ListN.{length};
-ghost use Rattle.io.specs.Counts.{Counts};
 ghost use Rattle.desk.specs.Loads.{countOf};
 
-// How many rows, cells or bytes were loaded.
+// How many rows or cells were loaded.
 pub enum Loaded {
     Count(usize),
     Nothing,
-}
-
-// Argument k of the program into the start of `word`: nothing where there is none, or a longer one.
-pub fn load_argument(k: usize, word: &mut [u8]) -> Loaded
-    ensures { λ r. ⌜ Counts (countOf r) (now (word .exit)) ⌝ }
-{
-    let size = os::arg(k, word);
-    if os::errno() != 0 {
-        return Loaded::Nothing;
-    }
-    Loaded::Count(size)
 }
 
 fn complain_unreadable(path: &[u8], text: &mut [u8]) {

@@ -3,18 +3,25 @@ use libc::STDERR_FILENO;
 use libc::STDOUT_FILENO;
 use text::put_bytes;
 
-pub fn say(words: &[u8]) {
-    io::write_all(STDOUT_FILENO, words);
-}
-
 pub fn complain(words: &[u8]) {
     io::write_all(STDERR_FILENO, words);
+}
+
+// An answer that a full disk or a closed output does not take is not lost without a word.
+fn write(fd: i32, words: &[u8]) {
+    if !io::write_all(fd, words) {
+        complain(b"what there is to say could not be written\n");
+    }
+}
+
+pub fn say(words: &[u8]) {
+    write(STDOUT_FILENO, words);
 }
 
 // The first bytes of a buffer. A text that filled its buffer may have been cut off: then that is said instead.
 fn print(fd: i32, text: &[u8], size: usize) {
     if size < text.len() {
-        io::write_all(fd, &text[..size]);
+        write(fd, &text[..size]);
     } else {
         complain(b"what there is to say is longer than the room for it, and is left out\n");
     }

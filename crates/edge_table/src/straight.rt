@@ -36,8 +36,8 @@ fn difference(low: u64, high: u64) -> u64
     low + (u64::MAX - high) + 1
 }
 
-// The digits 7 of every edge are the wanted ones, and the edges ascend, all below 2^63: the top bit stays where each difference has it,
-// and no edge. What is told is gathered as bits, for a pass that only gathers takes two rows at a time.
+// The digits 7 of every edge are the wanted ones, and the edges ascend, all below 2^63: the top bit stays where each difference has it
+// and no edge has it. What is told is gathered as bits, for a pass that only gathers takes two rows at a time.
 fn edges_kept(edges: &[u64], wanted: u64) -> bool
     requires { ⌜ 0 < length (now edges) ⌝ }
     ensures { λ b. ⌜ (b ≡ true → EdgesKept wanted (now (edges .entry))) ⌝ }

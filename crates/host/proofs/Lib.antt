@@ -1,3 +1,4 @@
+-- Laws that the proofs of this crate cite.
 pub mod Numbers
 pub mod Telling
 pub mod Determined

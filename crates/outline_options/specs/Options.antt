@@ -65,7 +65,7 @@ taken o k w = cond (eqb (o .fault) 0) (cond (eqb (o .mode) 3) (modeTaken o k w) 
 
 -- ---- what they come to
 
--- Help is given wherever it was asked for; two files are wanted, of which the list is the second.
+-- Help is given where it was asked for before a word that cannot be taken; two files are wanted, of which the list is the second.
 unfoldable pub statusOf : Options → Status
 statusOf o =
     cond (o .help) status.Help

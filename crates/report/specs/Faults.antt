@@ -26,5 +26,5 @@ listFaultText name room ending.Whole = []
 listFaultText name room (ending.Fault line place) =
     name
     ++ noted (ascii " line ") line (ascii "")
-    ++ noted (ascii ", byte ") place (ascii ": a cell is 1 to 16 hexadecimal digits, with or without 0x\n")
+    ++ noted (ascii ", byte ") place (ascii ": a line has one cell, 1 to 16 hexadecimal digits, with or without 0x\n")
 listFaultText name room (ending.TooMany line) = name ++ noted (ascii " line ") line (ascii "") ++ noted (ascii ": there are more than ") room (ascii " cells\n")

@@ -69,7 +69,7 @@ pub fn put_list_fault(out: &mut [u8], at: usize, name: &[u8], room: usize, endin
                 lined,
                 b", byte ",
                 place,
-                b": a cell is 1 to 16 hexadecimal digits, with or without 0x\n",
+                b": a line has one cell, 1 to 16 hexadecimal digits, with or without 0x\n",
             )
         }
         Ending::TooMany(line) => {

@@ -1,1 +1,2 @@
+-- What is told of a reading.
 pub mod Summary

@@ -1,3 +1,4 @@
+-- Laws that the proofs of this crate cite.
 pub mod Decoding
 pub mod Encoding
 pub mod Showing

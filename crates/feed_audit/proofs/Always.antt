@@ -1,6 +1,7 @@
--- WHAT STANDS IS WHAT IS DISSOLVED AFRESH: of a checked table and a newly opened state an audit never says that the two differ.
+-- WHAT STANDS IS WHAT IS DISSOLVED AFRESH: of a checked table an audit never says that the two differ.
 --     same-self       an outline that is read out is the same as itself
 --     afresh-again    the held cells, dissolved in the state's own memory, give what read out gives
+--     afresh-anew     so they do in any memory of the same sizes
 --     always-same     so the audit says that the two are the same
 -- Assumes nothing.
 use Prim.Native.Nat.{ℕ}
@@ -38,8 +39,10 @@ use Rattle.taking.proofs.Sizes.{Sized, opened-same}
 use Rattle.audit.specs.Feed.{leftBy, acceptedOf, feeding}
 use Rattle.audit.specs.Same.{sameAt, sameNumbers, bitsAt, sameBitsAt, sameAreas, sameOutput, sameAnswer}
 use Rattle.audit.proofs.FromOpened.{accepted-all, held-are}
-use Rattle.feed_audit.specs.Audit.{Begun, beginning, checking}
-use Rattle.feed_audit.proofs.Halves.{begunBy}
+use Rattle.full_size.specs.Drawing.{Drawn, drawn, fullMemory, drawing}
+use Rattle.full_size.proofs.Anew.{dissolve-anew}
+use Rattle.feed_audit.specs.Audit.{Begun, beginning, FedRead, readingFed, Standing, stood, standing, Compared, comparing, Audit, auditing}
+use Rattle.feed_audit.proofs.Full.{after}
 
 -- ---- an outline is the same as itself
 
@@ -71,10 +74,10 @@ answer-self Closed e = rw (self (areaBits Closed))
 answer-self (Outline polygons rings area) e = rw (self polygons, self rings, self (areaBits (Outline polygons rings area)))
 answer-self (readout.Refused number index) e = refused-not e
 
-abbrev sameReading : Reading → Reading → Bool
-sameReading r s = sameAnswer (r .answer) (s .answer) && sameOutput (r .out) (s .out)
+abbrev sameDrawn : Drawn → Drawn → Bool
+sameDrawn r s = sameAnswer (r .answer) (s .answer) && sameOutput (r .out) (s .out)
 
-pub same-self : (r : Reading) → verdictOf (r .answer) ≡ Accepted → sameReading r r ≡ true
+pub same-self : (r : Drawn) → verdictOf (r .answer) ≡ Accepted → sameDrawn r r ≡ true
 same-self r e = and-both _ _ (answer-self (r .answer) e) (output-self (r .out))
 
 -- ---- offers leave the capacities
@@ -134,10 +137,11 @@ module _ (t : Table) (m : Memory) (opens : openVerdict t m 2 ≡ Accepted) (xs :
   unfolding openVerdict
   opens-again = both-accept _ _ (require-accepts (lengthsFit t last && modeFits 2) 10 0 (and-both _ _ (lengths-kept t last last-lengths) refl)) (open-table t m 2 opens)
 
+  sized-last : Sized m last
+  sized-last = let sizes = feed-sizes t fresh xs in sized-by t (open-lengths t m 2 opens) last-lengths (sizes .0 ∙ opened-places m 2) (sizes .1 ∙ opened-slots m 2)
+
   same-opened : opened 2 last ≡ fresh
-  same-opened =
-      let sizes = feed-sizes t fresh xs in
-      opened-same 2 (sized-by t (open-lengths t m 2 opens) last-lengths (sizes .0 ∙ opened-places m 2) (sizes .1 ∙ opened-slots m 2))
+  same-opened = opened-same 2 sized-last
 
   again-last : offeringAll t (opened 2 last) taken .left ≡ last
   again-last = ap (λ (k : Memory). offeringAll t k taken .left) same-opened ∙ leaves-last
@@ -152,18 +156,28 @@ module _ (t : Table) (m : Memory) (opens : openVerdict t m 2 ≡ Accepted) (xs :
         ∙ dissolve-is t last 2 taken o opens-again again-taken (ap (λ (k : Memory). readVerdict t k o) again-last ∙ r)
         ∙ ap (λ (k : Memory). readingOut t k o) again-last
 
-    read-done : verdictOf (readingOut t last o .answer) ≡ Accepted
+    -- in another memory of the same sizes
+    pub afresh-anew : drawn (dissolving t m 2 (heldCells last) o) ≡ drawn (readingOut t last o)
+    afresh-anew = sym (dissolve-anew t 2 (heldCells last) o sized-last) ∙ ap (λ (d : Reading). drawn d) afresh-again
+
+    pub read-done : verdictOf (readingOut t last o .answer) ≡ Accepted
     unfolding readingOut
     read-done = ap (λ (v : Verdict). verdictOf (reading v (readFrom t last o) last o .answer)) r ∙ read-accepts t (view t last)
 
-    -- what is said of the outline that is read out after the feed
-    abbrev judged : Begun → Bool
-    judged begun = let read = readingOut t (begun .fed .left) o in checking t (read .answer) (read .out) (read .left) o .same
+-- ---- in memory of full size
 
-    pub always-same : judged (beginning t m xs) ≡ true
-    unfolding beginning checking opening feeding
-    always-same =
-        ap (λ (v : Verdict). judged (begunBy t m xs (outcome v fresh m))) opens
-        ∙ ap (λ (k : Memory). sameReading (readingOut t last o) (dissolving t k 2 (heldCells k) o)) (read-leaves t last o)
-        ∙ ap (sameReading (readingOut t last o)) afresh-again
-        ∙ same-self (readingOut t last o) read-done
+module _ (t : Table) (opens : openVerdict t (fullMemory t) 2 ≡ Accepted) (xs : List ℕ) (o : Output) (r : readVerdict t (leftBy t (opened 2 (fullMemory t)) xs) o ≡ Accepted) where
+  -- what is said of what stands
+  abbrev judged : Standing → Bool
+  judged s = comparing t (s .cells) (s .answer) (s .out) o .same
+
+  abbrev stays : Memory
+  stays = leftBy t (opened 2 (fullMemory t)) xs
+
+  pub always-same : auditing t xs o o .same ≡ true
+  unfolding auditing standing readingFed beginning comparing drawing opening feeding
+  always-same =
+      ap (λ (v : Verdict). judged (after t xs o (outcome v (opened 2 (fullMemory t)) (fullMemory t)))) opens
+      ∙ ap (λ (k : Memory). sameDrawn (drawn (readingOut t stays o)) (drawn (dissolving t (fullMemory t) 2 (heldCells k) o))) (read-leaves t stays o)
+      ∙ ap (sameDrawn (drawn (readingOut t stays o))) (afresh-anew t (fullMemory t) opens xs o r)
+      ∙ same-self (drawn (readingOut t stays o)) (read-done t (fullMemory t) opens xs o r)

@@ -1,28 +1,17 @@
--- The held cells, read from a copy.
+-- The held cells, copied.
 --     Copied, copied-start, copied-next     the loop that copies: its invariant and its moves
 --     first-copied     the first cells of a copy are those that were copied
---     held-listed      DISSOLVED FROM THE COPY is dissolved from the held cells: there are no more than its places, or 10 refuses before any list is looked at
+--     held-copied      where there are as many places as in the state, those are the held cells
 -- Assumes nothing.
 use Prim.Native.Nat.{ℕ, _+_, _≤_, _<_, min}
 use mathlib.Core.Path.{_≡_, refl, sym, _∙_, ap}
-use mathlib.Core.Bool.{Bool, true, false, _&&_}
 use mathlib.Core.List.{List}
-use mathlib.Core.Logic.{⊎-elim}
 use native.Mathlib.Nat.{min-le-left, min-le-right}
 use native.Mathlib.Numerals.{add-one}
 use native.Mathlib.Omega.{arith}
 use lib.ListN.{length, take, set, length-take, length-set}
 use lib.Seq.{paste, paste-zero, paste-suc, take-paste, take-all, getD-take, ext-getD, length-take-le}
-use Rattle.scope.specs.declared.Verdict.{Verdict}
-use Rattle.scope.specs.declared.Verdict.the-variants.{Accepted, Refused}
 use Rattle.scope.specs.Lists.{at}
-use Rattle.scope.specs.Answers.{require, _▷_}
-use Rattle.scope.specs.Table.{Table, tableVerdict, targetOf}
-use Rattle.scope.specs.CellLists.{listVerdict}
-use Rattle.scope.specs.Memory.{Memory, Output, held, heldCells, places, kept, lengthsFit, modeFits, outputsAgree}
-use Rattle.scope.specs.Calls.{Reading, reading, openVerdict, dissolveVerdict, working, dissolving}
-use Rattle.scope.proofs.Tests.{either}
-use Rattle.scope.proofs.Lengths.{lengths-good}
 
 -- ---- the loop
 
@@ -89,29 +78,8 @@ first-copied h l list {n} {list′} e f =
     let within : n ≤ length l = omega arith in
     ap (take n) f ∙ ap (λ (k : ℕ). take k (paste list 0 l n)) (sym (none-more n)) ∙ take-paste list 0 l n (omega arith) within ∙ ap (λ (k : ℕ). take k l) e ∙ cut h (length list) l
 
--- ---- dissolved
-
-module _ (t : Table) (m : Memory) (mode : ℕ) (o : Output) where
-  -- once an opening is refused, no list is looked at
-  unlooked : (a : Bool) (v w w′ : Verdict) (d d′ : Reading) {number index : ℕ} → v ≡ Refused number index
-      → reading (require a 10 0 ▷ v ▷ w) d m o ≡ reading (require a 10 0 ▷ v ▷ w′) d′ m o
-  unlooked true v w w′ d d′ e = rw e
-  unlooked false v w w′ d d′ e = refl
-
-  long : lengthsFit t m ≡ false → openVerdict t m mode ≡ Refused 10 0
-  unfolding openVerdict
-  long e = rw e
-
-  pub held-enough : dissolving t m mode (take 16384 (heldCells m)) o ≡ dissolving t m mode (heldCells m) o
-  unfolding dissolving dissolveVerdict
-  held-enough = ⊎-elim
-      (λ e. let w = lengths-good t m e .most-places in let f = length-take (held m) (m .cells) in let s = min-le-right (held m) (length (m .cells)) in
-      ap (λ (xs : List ℕ). dissolving t m mode xs o) (take-all 16384 (heldCells m) (omega arith)))
-      (λ e. unlooked (outputsAgree o) (openVerdict t m mode) _ _ _ _ (long e))
-      (either (lengthsFit t m))
-
-pub held-listed : (t : Table) (m : Memory) (mode : ℕ) (o : Output) (list : List ℕ) {n : ℕ} {list′ : List ℕ} → 16384 ≡ length list
-    → n ≡ length (take (length list) (heldCells m)) → list′ ≡ paste list 0 (m .cells) n
-    → dissolving t m mode (take n list′) o ≡ dissolving t m mode (heldCells m) o
-held-listed t m mode o list {n} {list′} s e f =
-    ap (λ (xs : List ℕ). dissolving t m mode xs o) (first-copied (held m) (m .cells) list e f ∙ ap (λ (k : ℕ). take k (heldCells m)) (sym s)) ∙ held-enough t m mode o
+pub held-copied : (h : ℕ) (l list : List ℕ) {n : ℕ} {list′ : List ℕ} → 16384 ≡ length list → 16384 ≡ length l
+    → n ≡ length (take (length list) (take h l)) → list′ ≡ paste list 0 l n → take n list′ ≡ take h l
+held-copied h l list a b e f =
+    let g = length-take h l in let w = min-le-right h (length l) in
+    first-copied h l list e f ∙ take-all (length list) (take h l) (omega arith)

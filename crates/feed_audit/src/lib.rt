@@ -1,85 +1,133 @@
-// An audit's two halves, over a whole memory: a feed offered to a state that is opened for it, and the held cells dissolved afresh beside
-// what stands.
-pub mod afresh;
+// A whole audit: a feed offered one by one to a newly opened state, what stands then, and the same dissolved afresh from the held cells. Each
+// of the two has its memory of full size in a frame of its own.
+pub mod fed;
 
-use answers::is_accepted;
-use audit::feed::offer_all;
-use scope::Verdict;
-use solvent::open;
+use audit::same::same_answer;
+use audit::same::same_output;
+use desk::arrays::place_words;
+use fed::Answers;
+use fed::stand;
+use full_size::dissolve_list;
+use scope::ReadOut;
 ghost use mathlib.Core.Path.{_≡_};
-ghost use Prim.Native.Nat.{_≤_};
 ghost use lib.ListN.{replicate};
-ghost use Rattle.scope.specs.Answers.{ifAccepted};
 ghost use Rattle.scope.specs.Table.{table};
-ghost use Rattle.scope.specs.Memory.{memory};
-ghost use Rattle.audit.specs.Feed.{Fed};
-ghost use Rattle.feed_audit.specs.Audit.{Begun, beginning};
+ghost use Rattle.scope.specs.Memory.{output};
+ghost use Rattle.feed_audit.specs.Audit.{Compared, comparing, Audit, auditing};
 
-// How many of so many cells are offered: none where the opening was refused.
-fn offers(opened: Verdict, size: usize) -> usize
-    ensures { λ r. ⌜ (r ≡ ifAccepted opened size 0) × (r ≤ size) ⌝ }
-{
-    if is_accepted(opened) { size } else { 0 }
+// The answers of opening and read out, one visit to each held cell, and whether the cells dissolved afresh give the same.
+pub struct Audited {
+    pub answers: Answers,
+    pub visits: usize,
+    pub same: bool,
 }
 
-// Opens the state, naming no mode, and offers the feed. The offers are counted in eleven zeros.
-pub fn offer_anew(
+// Dissolves the cells afresh, naming no mode, and says whether that gives the answer and the output that stand.
+fn same_anew(
     edges: &[u64],
     reverse: &[u32],
     area: &[f64],
-    head: &mut [u32],
-    cells: &mut [u64],
-    parent: &mut [u32],
-    rank: &mut [u32],
-    cell_mark: &mut [u32],
-    slot_row: &mut [u32],
-    slot_cell: &mut [u32],
-    prev: &mut [u32],
-    next: &mut [u32],
-    row_slot: &mut [u32],
-    row_mark: &mut [u32],
-    feed: &[u64],
-    counts: &mut [usize],
-) -> Verdict
-    requires { ⌜ now counts ≡ replicate 11 0 ⌝ }
-    ensures { λ r. ⌜ record { opened = r; fed = record { counts = now (counts .exit); left = memory (now (head .exit)) (now (cells .exit)) (now (parent .exit)) (now (rank .exit)) (now («cell_mark» .exit)) (now («slot_row» .exit)) (now («slot_cell» .exit)) (now (prev .exit)) (now (next .exit)) (now («row_slot» .exit)) (now («row_mark» .exit)) } }
-        ≡ beginning (table (now (edges .entry)) (now (reverse .entry)) (now (area .entry))) (memory (now (head .entry)) (now (cells .entry)) (now (parent .entry)) (now (rank .entry)) (now («cell_mark» .entry)) (now («slot_row» .entry)) (now («slot_cell» .entry)) (now (prev .entry)) (now (next .entry)) (now («row_slot» .entry)) (now («row_mark» .entry))) (now (feed .entry)) ⌝ }
+    cells: &[u64],
+    standing: ReadOut,
+    start: &[u32],
+    size: &[u32],
+    group: &[u32],
+    ring_area: &[f64],
+    ring_edges: &[u32],
+    anew_start: &mut [u32],
+    anew_size: &mut [u32],
+    anew_group: &mut [u32],
+    anew_area: &mut [f64],
+    anew_edges: &mut [u32],
+) -> bool
+    ensures { λ r. ⌜ record { same = r; anew = output (now («anew_start» .exit)) (now («anew_size» .exit)) (now («anew_group» .exit)) (now («anew_area» .exit)) (now («anew_edges» .exit)) }
+        ≡ comparing (table (now (edges .entry)) (now (reverse .entry)) (now (area .entry))) (now (cells .entry)) standing (output (now (start .entry)) (now (size .entry)) (now (group .entry)) (now («ring_area» .entry)) (now («ring_edges» .entry))) (output (now («anew_start» .entry)) (now («anew_size» .entry)) (now («anew_group» .entry)) (now («anew_area» .entry)) (now («anew_edges» .entry))) ⌝ }
 {
-    let opened = open(
+    let again = dissolve_list(
         edges,
         reverse,
         area,
-        head,
         cells,
-        parent,
-        rank,
-        cell_mark,
-        slot_row,
-        slot_cell,
-        prev,
-        next,
-        row_slot,
-        row_mark,
+        anew_start,
+        anew_size,
+        anew_group,
+        anew_area,
+        anew_edges,
         2,
     );
-    let count = offers(opened, feed.len());
-    offer_all(
+    same_answer(standing, again)
+        & same_output(
+            start,
+            size,
+            group,
+            ring_area,
+            ring_edges,
+            anew_start,
+            anew_size,
+            anew_group,
+            anew_area,
+            anew_edges,
+        )
+}
+
+// Audits a feed. The offers are counted in eleven zeros.
+pub fn audit(
+    edges: &[u64],
+    reverse: &[u32],
+    area: &[f64],
+    feed: &[u64],
+    counts: &mut [usize],
+    start: &mut [u32],
+    size: &mut [u32],
+    group: &mut [u32],
+    ring_area: &mut [f64],
+    ring_edges: &mut [u32],
+    anew_start: &mut [u32],
+    anew_size: &mut [u32],
+    anew_group: &mut [u32],
+    anew_area: &mut [f64],
+    anew_edges: &mut [u32],
+) -> Audited
+    requires { ⌜ now counts ≡ replicate 11 0 ⌝ }
+    ensures { λ r. ⌜ record { opened = r .answers .opened; counts = now (counts .exit); visits = r .visits; answer = r .answers .standing; same = r .same; out = output (now (start .exit)) (now (size .exit)) (now (group .exit)) (now («ring_area» .exit)) (now («ring_edges» .exit)); anew = output (now («anew_start» .exit)) (now («anew_size» .exit)) (now («anew_group» .exit)) (now («anew_area» .exit)) (now («anew_edges» .exit)) }
+        ≡ auditing (table (now (edges .entry)) (now (reverse .entry)) (now (area .entry))) (now (feed .entry)) (output (now (start .entry)) (now (size .entry)) (now (group .entry)) (now («ring_area» .entry)) (now («ring_edges» .entry))) (output (now («anew_start» .entry)) (now («anew_size» .entry)) (now («anew_group» .entry)) (now («anew_area» .entry)) (now («anew_edges» .entry))) ⌝ }
+{
+    let mut list = place_words();
+    let stood = stand(
         edges,
         reverse,
         area,
-        head,
-        cells,
-        parent,
-        rank,
-        cell_mark,
-        slot_row,
-        slot_cell,
-        prev,
-        next,
-        row_slot,
-        row_mark,
-        &feed[..count],
+        feed,
         counts,
+        &mut list,
+        start,
+        size,
+        group,
+        ring_area,
+        ring_edges,
     );
-    opened
+    let answers = stood.answers;
+    let standing = answers.standing;
+    let same = same_anew(
+        edges,
+        reverse,
+        area,
+        &list[..stood.held],
+        standing,
+        start,
+        size,
+        group,
+        ring_area,
+        ring_edges,
+        anew_start,
+        anew_size,
+        anew_group,
+        anew_area,
+        anew_edges,
+    );
+    Audited {
+        answers,
+        visits: stood.held,
+        same,
+    }
 }

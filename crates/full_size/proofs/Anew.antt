@@ -1,6 +1,7 @@
 -- What dissolve answers and writes out is the same in all memories of the same sizes, whatever they hold.
+--     same-lengths      their lengths fit a table, or do not
 --     dissolve-anew     that law
---     Full, drawn-full  in memory of full size, from the lengths of its slices
+--     Full, full-sized, drawn-full     in memory of full size, from the lengths of its slices
 --     lent-rows         of an array of 65,536 as many are lent as the table has rows
 -- Assumes nothing.
 use Prim.Native.Nat.{ℕ, _≤_, min}
@@ -24,27 +25,27 @@ drawn-reading : (v : Verdict) (d : Reading) (m₀ m : Memory) (o : Output) → d
 drawn-reading Accepted d m₀ m o = refl
 drawn-reading (Refused number index) d m₀ m o = refl
 
-module _ (t : Table) (mode : ℕ) (cs : List ℕ) (o : Output) {m₀ m : Memory} (s : Sized m₀ m) where
-  same-lengths : lengthsFit t m ≡ lengthsFit t m₀
-  unfolding lengthsFit
-  same-lengths =
-      rw (
-        s .head,
-        s .cells,
-        s .parent,
-        s .rank,
-        s .cell-mark,
-        s .slot-row,
-        s .slot-cell,
-        s .prev,
-        s .next,
-        s .row-slot,
-        s .row-mark,
-      )
+pub same-lengths : (t : Table) {m₀ m : Memory} → Sized m₀ m → lengthsFit t m ≡ lengthsFit t m₀
+unfolding lengthsFit
+same-lengths t s =
+    rw (
+      s .head,
+      s .cells,
+      s .parent,
+      s .rank,
+      s .cell-mark,
+      s .slot-row,
+      s .slot-cell,
+      s .prev,
+      s .next,
+      s .row-slot,
+      s .row-mark,
+    )
 
+module _ (t : Table) (mode : ℕ) (cs : List ℕ) (o : Output) {m₀ m : Memory} (s : Sized m₀ m) where
   same-verdict : dissolveVerdict t m mode cs o ≡ dissolveVerdict t m₀ mode cs o
   unfolding dissolveVerdict openVerdict
-  same-verdict = rw (same-lengths, s .cells)
+  same-verdict = rw (same-lengths t s, s .cells)
 
   same-work : working t m mode cs o ≡ working t m₀ mode cs o
   unfolding working
@@ -76,7 +77,7 @@ pub record Full (t : Table) (m : Memory) : Type 0 where
 as-long : (n : ℕ) (l : List ℕ) → n ≡ length l → length l ≡ length {A = ℕ} (replicate n 0)
 as-long n l e = sym e ∙ sym (length-replicate {A = ℕ} n 0)
 
-full-sized : (t : Table) (m : Memory) → Full t m → Sized (fullMemory t) m
+pub full-sized : (t : Table) (m : Memory) → Full t m → Sized (fullMemory t) m
 unfolding cleared
 full-sized t m f = record {
   head = as-long 2 (m .head) (f .head);

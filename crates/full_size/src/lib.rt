@@ -12,7 +12,7 @@ ghost use Rattle.scope.specs.Memory.{output};
 ghost use Rattle.full_size.specs.Drawing.{Drawn, drawing};
 
 // A table has no more rows than these; a longer one is refused by its lengths.
-fn rows_lent(rows: usize) -> usize
+pub fn rows_lent(rows: usize) -> usize
     ensures { λ r. ⌜ (r ≡ min rows 65536) × (r ≤ 65536) ⌝ }
 {
     if rows < 65536 { rows } else { 65536 }

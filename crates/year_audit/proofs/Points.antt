@@ -10,11 +10,12 @@ use Rattle.scope.specs.declared.Verdict.{Verdict}
 use Rattle.scope.specs.declared.Verdict.the-variants.{Accepted, Refused}
 use Rattle.scope.specs.Answers.{ifAccepted}
 use Rattle.scope.specs.Table.{Table}
-use Rattle.scope.specs.Memory.{Memory}
+use Rattle.scope.specs.Memory.{Memory, Output}
 use Rattle.scope.specs.Calls.{offering, opening}
 use Rattle.audit.specs.Feed.{verdicts, feeding, tally, pointsUnchecked}
 use Rattle.audit.proofs.Tally.{tally-at, counts-most}
-use Rattle.feed_audit.specs.Audit.{Begun, beginning}
+use Rattle.full_size.specs.Drawing.{fullMemory}
+use Rattle.feed_audit.specs.Audit.{Begun, beginning, FedRead, readingFed, Standing, standing, Audit, auditing}
 
 verdicts-many : (t : Table) (m : Memory) (xs : List ℕ) → length (verdicts t m xs) ≡ length xs
 unfolding verdicts
@@ -39,5 +40,9 @@ points-few t m xs =
     let g = offered-few (b .answer) xs in
     omega (arith, f, g)
 
-pub points-low : (t : Table) (m : Memory) (xs : List ℕ) {b : Begun} → b ≡ beginning t m xs → length xs ≤ 65536 → pointsUnchecked (b .fed .counts) < 2 ^ 64
-points-low t m xs e h = let f = points-few t m xs in subst (λ (k : Begun). pointsUnchecked (k .fed .counts) < 2 ^ 64) (sym e) (omega arith)
+audit-few : (t : Table) (xs : List ℕ) (o p : Output) → pointsUnchecked (auditing t xs o p .counts) ≤ length xs
+unfolding auditing standing readingFed
+audit-few t xs o p = points-few t (fullMemory t) xs
+
+pub points-low : (t : Table) (xs : List ℕ) (o p : Output) {a : Audit} → a ≡ auditing t xs o p → length xs ≤ 65536 → pointsUnchecked (a .counts) < 2 ^ 64
+points-low t xs o p e h = let f = audit-few t xs o p in subst (λ (k : Audit). pointsUnchecked (k .counts) < 2 ^ 64) (sym e) (omega arith)

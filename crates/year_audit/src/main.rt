@@ -14,7 +14,7 @@ use desk::load_cells;
 use desk::load_table;
 use desk::words::complain;
 use desk::words::say;
-use year::audit_in_new_memory;
+use year::audit_feed;
 ghost use Prim.Native.Nat.{_≤_};
 ghost use lib.ListN.{length};
 ghost use Rattle.desk.specs.Loads.{countOf};
@@ -84,7 +84,7 @@ fn audit_files(table: &[u8], feed: &[u8]) {
     let Loaded::Count(count) = load_feed(feed, &mut cells) else {
         return;
     };
-    audit_in_new_memory(
+    audit_feed(
         table,
         &edges[..rows],
         &reverse[..rows],

@@ -60,29 +60,29 @@ returns-2 c = search needs
 array-share-prefix-edges : tie.Need-array-share-prefix-edges
 array-share-prefix-edges c = let load = c .before .before .before .before .before .before .before .before .before .before .before .before .load-rows in omega (arith, loaded (c .before .before .before .before .before .before .before .rows .given .1) (load .ensures .0), load .kept .1 .0)
 
-slice-aggregate-audit-in-new-memory : tie.Need-slice-aggregate-audit-in-new-memory
-slice-aggregate-audit-in-new-memory c = sym (length-take-le _ _ (let load = c .before .before .before .before .before .before .before .before .before .before .before .before .before .load-rows in omega (arith, loaded (c .before .before .before .before .before .before .before .before .rows .given .1) (load .ensures .0), load .kept .1 .0)))
+slice-aggregate-audit-feed : tie.Need-slice-aggregate-audit-feed
+slice-aggregate-audit-feed c = sym (length-take-le _ _ (let load = c .before .before .before .before .before .before .before .before .before .before .before .before .before .load-rows in omega (arith, loaded (c .before .before .before .before .before .before .before .before .rows .given .1) (load .ensures .0), load .kept .1 .0)))
 
 array-share-prefix-reverse : tie.Need-array-share-prefix-reverse
 array-share-prefix-reverse c = let load = c .before .before .before .before .before .before .before .before .before .before .before .before .before .load-rows in omega (arith, loaded (c .before .before .before .before .before .before .before .before .rows .given .1) (load .ensures .1), load .kept .1 .1 .0)
 
-slice-aggregate-audit-in-new-memory-2 : tie.Need-slice-aggregate-audit-in-new-memory-2
-slice-aggregate-audit-in-new-memory-2 c = sym (length-take-le _ _ (let load = c .before .before .before .before .before .before .before .before .before .before .before .before .before .before .load-rows in omega (arith, loaded (c .before .before .before .before .before .before .before .before .before .rows .given .1) (load .ensures .1), load .kept .1 .1 .0)))
+slice-aggregate-audit-feed-2 : tie.Need-slice-aggregate-audit-feed-2
+slice-aggregate-audit-feed-2 c = sym (length-take-le _ _ (let load = c .before .before .before .before .before .before .before .before .before .before .before .before .before .before .load-rows in omega (arith, loaded (c .before .before .before .before .before .before .before .before .before .rows .given .1) (load .ensures .1), load .kept .1 .1 .0)))
 
 array-share-prefix-area : tie.Need-array-share-prefix-area
 array-share-prefix-area c = let load = c .before .before .before .before .before .before .before .before .before .before .before .before .before .before .load-rows in omega (arith, loaded (c .before .before .before .before .before .before .before .before .before .rows .given .1) (load .ensures .2), load .kept .1 .1 .1 .0)
 
-slice-aggregate-audit-in-new-memory-3 : tie.Need-slice-aggregate-audit-in-new-memory-3
-slice-aggregate-audit-in-new-memory-3 c = sym (length-take-le _ _ (let load = c .before .before .before .before .before .before .before .before .before .before .before .before .before .before .before .load-rows in omega (arith, loaded (c .before .before .before .before .before .before .before .before .before .before .rows .given .1) (load .ensures .2), load .kept .1 .1 .1 .0)))
+slice-aggregate-audit-feed-3 : tie.Need-slice-aggregate-audit-feed-3
+slice-aggregate-audit-feed-3 c = sym (length-take-le _ _ (let load = c .before .before .before .before .before .before .before .before .before .before .before .before .before .before .before .load-rows in omega (arith, loaded (c .before .before .before .before .before .before .before .before .before .before .rows .given .1) (load .ensures .2), load .kept .1 .1 .1 .0)))
 
 array-share-prefix-cells : tie.Need-array-share-prefix-cells
 array-share-prefix-cells c = let load = c .before .before .before .before .before .before .before .load-feed in omega (arith, loaded (c .before .before .before .before .count .given .1) (load .ensures), load .kept .1 .0)
 
-slice-aggregate-audit-in-new-memory-4 : tie.Need-slice-aggregate-audit-in-new-memory-4
-slice-aggregate-audit-in-new-memory-4 c = sym (length-take-le _ _ (let load = c .before .before .before .before .before .before .before .before .load-feed in omega (arith, loaded (c .before .before .before .before .before .count .given .1) (load .ensures), load .kept .1 .0)))
+slice-aggregate-audit-feed-4 : tie.Need-slice-aggregate-audit-feed-4
+slice-aggregate-audit-feed-4 c = sym (length-take-le _ _ (let load = c .before .before .before .before .before .before .before .before .load-feed in omega (arith, loaded (c .before .before .before .before .before .count .given .1) (load .ensures), load .kept .1 .0)))
 
-audit-in-new-memory-requires : tie.Need-audit-in-new-memory-requires
-audit-in-new-memory-requires c κs = (taken-few _ (c .before .before .before .before .before .before .before .before .before .before .before .rows .given .1) (c .before .before .before .before .before .before .before .before .before .before .before .before .before .before .before .before .load-rows .kept .1 .0) (c .before .before .before .before .before .before .before .before .before .before .before .before .before .before .before .before .before .before .before .before .before .before .before .row-words .ensures), taken-few _ (c .before .before .before .before .before .count .given .1) (c .before .before .before .before .before .before .before .before .load-feed .kept .1 .0) (c .before .before .before .before .before .before .before .before .before .before .before .before .before .before .before .before .before .before .before .before .feed-words .ensures))
+audit-feed-requires : tie.Need-audit-feed-requires
+audit-feed-requires c κs = taken-few _ (c .before .before .before .before .before .count .given .1) (c .before .before .before .before .before .before .before .before .load-feed .kept .1 .0) (c .before .before .before .before .before .before .before .before .before .before .before .before .before .before .before .before .before .before .before .before .feed-words .ensures)
 
 returns-3 : tie.Need-returns-3
 returns-3 c = search needs
@@ -108,12 +108,12 @@ audit-files-spec =
     enum-told-2
     returns-2
     array-share-prefix-edges
-    slice-aggregate-audit-in-new-memory
+    slice-aggregate-audit-feed
     array-share-prefix-reverse
-    slice-aggregate-audit-in-new-memory-2
+    slice-aggregate-audit-feed-2
     array-share-prefix-area
-    slice-aggregate-audit-in-new-memory-3
+    slice-aggregate-audit-feed-3
     array-share-prefix-cells
-    slice-aggregate-audit-in-new-memory-4
-    audit-in-new-memory-requires
+    slice-aggregate-audit-feed-4
+    audit-feed-requires
     returns-3)

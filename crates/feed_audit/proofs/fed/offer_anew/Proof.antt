@@ -1,11 +1,11 @@
--- `feed_audit::offer_anew` meets its contract. Opened, and the feed offered.
+-- `feed_audit::fed::offer_anew` meets its contract. Opened, and the feed offered.
 -- Assumes nothing.
 use borrow.Author.Needs.{needs}
 use mathlib.Core.Path.{sym, _∙_}
 use lib.Seq.{length-take-le}
-use Rattle.feed_audit.proofs.Halves.{begun-is}
-use Rattle.feed_audit.proofs.offer_anew.Statement.{statement}
-use Rattle.feed_audit.proofs.offer_anew.Tie as tie
+use Rattle.feed_audit.proofs.Whole.{begun-is}
+use Rattle.feed_audit.proofs.fed.offer_anew.Statement.{statement}
+use Rattle.feed_audit.proofs.fed.offer_anew.Tie as tie
 
 open-requires : tie.Need-open-requires
 open-requires c κs = search needs

@@ -1,12 +1,11 @@
--- `feed_audit::offers` meets its contract. By whether the opening was accepted.
+-- `feed_audit::fed::offers` meets its contract. By whether the opening was accepted.
 -- Assumes nothing.
-use native.Mathlib.Omega.{arith}
 use native.Mathlib.Omega.{arith}
 use borrow.Author.Needs.{needs}
 use mathlib.Core.Path.{sym, _∙_}
-use Rattle.feed_audit.proofs.Halves.{all-offered, none-offered}
-use Rattle.feed_audit.proofs.offers.Statement.{statement}
-use Rattle.feed_audit.proofs.offers.Tie as tie
+use Rattle.feed_audit.proofs.Whole.{all-offered, none-offered}
+use Rattle.feed_audit.proofs.fed.offers.Statement.{statement}
+use Rattle.feed_audit.proofs.fed.offers.Tie as tie
 
 is-accepted-requires : tie.Need-is-accepted-requires
 is-accepted-requires c κs = search needs

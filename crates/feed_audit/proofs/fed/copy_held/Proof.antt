@@ -1,10 +1,10 @@
--- `feed_audit::afresh::copy_held` meets its contract. As many as are held and there is room for.
+-- `feed_audit::fed::copy_held` meets its contract. As many as are held and there is room for.
 -- Assumes nothing.
 use native.Mathlib.Omega.{arith}
 use borrow.Author.Needs.{needs}
 use Rattle.feed_audit.proofs.Held.{count-is}
-use Rattle.feed_audit.proofs.afresh.copy_held.Statement.{statement}
-use Rattle.feed_audit.proofs.afresh.copy_held.Tie as tie
+use Rattle.feed_audit.proofs.fed.copy_held.Statement.{statement}
+use Rattle.feed_audit.proofs.fed.copy_held.Tie as tie
 
 at32-requires : tie.Need-at32-requires
 at32-requires c κs = search needs

@@ -1,11 +1,11 @@
--- `feed_audit::afresh::copy_cells` meets its contract. The first i cells are copied.
+-- `feed_audit::fed::copy_cells` meets its contract. The first i cells are copied.
 -- Assumes nothing.
 use native.Mathlib.Omega.{arith}
 use borrow.Author.Needs.{needs}
 use Prim.Native.Nat.{_-_}
 use Rattle.feed_audit.proofs.Held.{Copied, copied-start, copied-in, copied-next, copied-all}
-use Rattle.feed_audit.proofs.afresh.copy_cells.Statement.{statement}
-use Rattle.feed_audit.proofs.afresh.copy_cells.Tie as tie
+use Rattle.feed_audit.proofs.fed.copy_cells.Statement.{statement}
+use Rattle.feed_audit.proofs.fed.copy_cells.Tie as tie
 
 abbrev Inv-loop : tie.InvT-loop
 Inv-loop cells list₀ count i₀ list i = Copied cells list₀ count list i

@@ -14,7 +14,7 @@ ghost use lib.ListN.{length};
 ghost use Rattle.audit.specs.Feed.{pointsUnchecked};
 
 // Audits the feed, and says what came of it.
-pub fn audit_feed(table: &[u8], edges: &[u64], reverse: &[u32], area: &[f64], feed: &[u64])
+pub(crate) fn audit_feed(table: &[u8], edges: &[u64], reverse: &[u32], area: &[f64], feed: &[u64])
     requires { ⌜ length (now feed) ≤ 65536 ⌝ }
 {
     let mut counts = [0usize; 11];

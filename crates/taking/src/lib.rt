@@ -17,6 +17,8 @@ const FEW_ROWS: usize = 4096;
 
 const FEW_NOTES: usize = 16384;
 
+const FEW_CELLS: usize = 8;
+
 // A local array is cleared at every call, so small tables have small ones.
 fn take_few(
     edges: &[u64],
@@ -56,6 +58,50 @@ fn take_few(
         row_slot,
         row_mark,
         &mut notes,
+        &mut rows,
+        list,
+    )
+}
+
+// A few cells, as an offer's one, are sooner looked up than the rows noted: there is no place for notes.
+fn take_some(
+    edges: &[u64],
+    reverse: &[u32],
+    area: &[f64],
+    head: &mut [u32],
+    cells: &mut [u64],
+    parent: &mut [u32],
+    rank: &mut [u32],
+    cell_mark: &[u32],
+    slot_row: &mut [u32],
+    slot_cell: &mut [u32],
+    prev: &mut [u32],
+    next: &mut [u32],
+    row_slot: &mut [u32],
+    row_mark: &mut [u32],
+    list: &[u64],
+) -> Verdict
+    requires { ⌜ ListAsks (table (now edges) (now reverse) (now area)) (memory (now head) (now cells) (now parent) (now rank) (now «cell_mark») (now «slot_row») (now «slot_cell») (now prev) (now next) (now «row_slot») (now «row_mark»)) (now list) ⌝ }
+    ensures { λ r. ⌜ TakesAll (table (now (edges .entry)) (now (reverse .entry)) (now (area .entry))) (memory (now (head .entry)) (now (cells .entry)) (now (parent .entry)) (now (rank .entry)) (now («cell_mark» .entry)) (now («slot_row» .entry)) (now («slot_cell» .entry)) (now (prev .entry)) (now (next .entry)) (now («row_slot» .entry)) (now («row_mark» .entry))) (now (list .entry)) r (memory (now (head .exit)) (now (cells .exit)) (now (parent .exit)) (now (rank .exit)) (now («cell_mark» .entry)) (now («slot_row» .exit)) (now («slot_cell» .exit)) (now (prev .exit)) (now (next .exit)) (now («row_slot» .exit)) (now («row_mark» .exit))) ⌝ }
+{
+    let mut rows = blank_rows();
+    let mut none = [0u32; 1];
+    take_noted(
+        edges,
+        reverse,
+        area,
+        head,
+        cells,
+        parent,
+        rank,
+        cell_mark,
+        slot_row,
+        slot_cell,
+        prev,
+        next,
+        row_slot,
+        row_mark,
+        &mut none,
         &mut rows,
         list,
     )
@@ -104,6 +150,65 @@ fn take_many(
     )
 }
 
+// The same for a table of any size.
+fn take_large(
+    edges: &[u64],
+    reverse: &[u32],
+    area: &[f64],
+    head: &mut [u32],
+    cells: &mut [u64],
+    parent: &mut [u32],
+    rank: &mut [u32],
+    cell_mark: &[u32],
+    slot_row: &mut [u32],
+    slot_cell: &mut [u32],
+    prev: &mut [u32],
+    next: &mut [u32],
+    row_slot: &mut [u32],
+    row_mark: &mut [u32],
+    list: &[u64],
+) -> Verdict
+    requires { ⌜ ListAsks (table (now edges) (now reverse) (now area)) (memory (now head) (now cells) (now parent) (now rank) (now «cell_mark») (now «slot_row») (now «slot_cell») (now prev) (now next) (now «row_slot») (now «row_mark»)) (now list) ⌝ }
+    ensures { λ r. ⌜ TakesAll (table (now (edges .entry)) (now (reverse .entry)) (now (area .entry))) (memory (now (head .entry)) (now (cells .entry)) (now (parent .entry)) (now (rank .entry)) (now («cell_mark» .entry)) (now («slot_row» .entry)) (now («slot_cell» .entry)) (now (prev .entry)) (now (next .entry)) (now («row_slot» .entry)) (now («row_mark» .entry))) (now (list .entry)) r (memory (now (head .exit)) (now (cells .exit)) (now (parent .exit)) (now (rank .exit)) (now («cell_mark» .entry)) (now («slot_row» .exit)) (now («slot_cell» .exit)) (now (prev .exit)) (now (next .exit)) (now («row_slot» .exit)) (now («row_mark» .exit))) ⌝ }
+{
+    if list.len() < FEW_CELLS {
+        return take_some(
+            edges,
+            reverse,
+            area,
+            head,
+            cells,
+            parent,
+            rank,
+            cell_mark,
+            slot_row,
+            slot_cell,
+            prev,
+            next,
+            row_slot,
+            row_mark,
+            list,
+        );
+    }
+    take_many(
+        edges,
+        reverse,
+        area,
+        head,
+        cells,
+        parent,
+        rank,
+        cell_mark,
+        slot_row,
+        slot_cell,
+        prev,
+        next,
+        row_slot,
+        row_mark,
+        list,
+    )
+}
+
 // The cells of a list that passes, in turn, up to the first that is refused.
 pub fn take_all(
     edges: &[u64],
@@ -144,7 +249,7 @@ pub fn take_all(
             list,
         );
     }
-    take_many(
+    take_large(
         edges,
         reverse,
         area,

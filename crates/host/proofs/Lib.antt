@@ -3,5 +3,3 @@ pub mod Numbers
 pub mod Telling
 pub mod Determined
 pub mod Results
-pub mod Enough
-pub mod EnoughSlots

@@ -99,6 +99,9 @@ pub mod Begun
 pub mod ShownAfresh
 pub mod Counts
 pub mod RingsLeft
+-- Room that is always enough
+pub mod EnoughRoom
+pub mod EnoughSlots
 -- The bytes of the host
 pub mod RoundTrip
 pub mod PastHeld

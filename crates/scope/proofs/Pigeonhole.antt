@@ -1,6 +1,7 @@
 -- THE PIGEONHOLE on lists of numbers.
 --     fresh-within     different members of a list are at most as many as its members
 --     fresh-length     different numbers below n are at most n
+--     fresh-map        what an injective map makes of different numbers are different
 --     one-to-one       what an injective map takes into a list is at most as much
 -- Assumes nothing.
 use mathlib.Core.Path.{_≡_, refl, sym, _∙_, ap}
@@ -53,7 +54,7 @@ pub fresh-length : (n : ℕ) (l : List ℕ) → Fresh l → ((a : ℕ) → List�
 fresh-length n l f b = let h = fresh-within l (below (λ a. true) n) f (λ a i. below-mem (λ a. true) n a (b a i) refl) in omega (arith, all-below n)
 
 module _ (f : ℕ → ℕ) where
-  fresh-map : (l : List ℕ) → Fresh l → ((a b : ℕ) → List·Memᴰ a l → List·Memᴰ b l → f a ≡ f b → a ≡ b) → Fresh (map f l)
+  pub fresh-map : (l : List ℕ) → Fresh l → ((a b : ℕ) → List·Memᴰ a l → List·Memᴰ b l → f a ≡ f b → a ≡ b) → Fresh (map f l)
   fresh-map [] g inj = tt
   fresh-map (x ∷ l) g inj = (
     λ i. let r = Memᴰ·of-map f l i in g .0 (Memᴰ·cast (inj x (r .0) (List·Memᴰ·head refl) (List·Memᴰ·tail (r .1)) (sym (r .2))) (r .1)),

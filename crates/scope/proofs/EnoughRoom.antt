@@ -1,37 +1,39 @@
--- OUTPUTS THAT ARE ALWAYS LONG ENOUGH: as many records and as many rows in the edge list as the table has rows.
---     edges-most          no more edges are read out than there are rows, for each is in one ring
+-- OUTPUTS THAT ARE ALWAYS LONG ENOUGH: half as many records, and half as many rows in the edge list, as the table has rows.
+--     edges-half          twice the edges that are read out are no more than the rows: each is in one ring, and its reverse in none
 --     outputs-enough      so outputs of that size fit, whatever state passes the rules
 --     read-enough         read out is then refused by 10, 1 or 9 of its first tests alone
 --     dissolve-enough     and dissolve, once its list has passed, by 5, 6 or 7 alone
 -- Assumes nothing.
-use Prim.Native.Nat.{ℕ, _≤_, _<_}
-use mathlib.Core.Path.{_≡_, refl, sym, ap, subst}
+use Prim.Native.Nat.{ℕ, _*_, _≤_, _<_}
+use mathlib.Core.Path.{_≡_, refl, sym, _∙_, ap, subst}
 use mathlib.Core.Bool.{Bool, true, _&&_}
 use mathlib.Core.Logic.{_⊎_, inl, inr}
-use mathlib.Core.List.{List, [], _∷_, _++_, List·Memᴰ, List·Memᴰ·head, List·Memᴰ·tail, List·Memᴰ·not-nil, List·Memᴰ·cases-cons, List·Memᴰ·append-cases, Memᴰ·cast}
+use mathlib.Core.List.{List, [], _∷_, _++_, map, List·Memᴰ, List·Memᴰ·head, List·Memᴰ·tail, List·Memᴰ·not-nil, List·Memᴰ·cases-cons, List·Memᴰ·append-cases, Memᴰ·cast, Memᴰ·of-map}
 use native.Mathlib.Omega.{arith}
-use lib.ListN.{length, length-append}
+use lib.ListN.{length, length-append, length-map}
 use borrow.Author.Tests.{le-leb}
 use Rattle.scope.specs.declared.Verdict.{Verdict}
 use Rattle.scope.specs.declared.Verdict.the-variants.{Accepted, Refused}
 use Rattle.scope.specs.Answers.{require, _▷_}
-use Rattle.scope.specs.Table.{Table, rowCount}
+use Rattle.scope.specs.Table.{Table, rowCount, reverseOf}
 use Rattle.scope.specs.Memory.{Memory, Output, hasSlot, opened, lengthsFit, modeFits, outputsAgree}
 use Rattle.scope.specs.Afresh.{ring, startsRing}
 use Rattle.scope.specs.Order.{View, view, standsAt, nextRow, ringAt, lowestRows, ordered, edgeRows}
 use Rattle.scope.specs.Calls.{openVerdict, stateVerdict, outputFits, readVerdict, offeringAll, dissolveVerdict}
 use Rattle.scope.proofs.Tests.{and-left, and-both}
 use Rattle.scope.proofs.Verdicts.{first-accepts, second-accepts, require-holds, require-accepts}
 use Rattle.scope.proofs.Members.{Fresh, mem-below, below-fresh}
-use Rattle.scope.proofs.Pigeonhole.{fresh-length}
+use Rattle.scope.proofs.Pigeonhole.{fresh-length, fresh-map}
 use Rattle.scope.proofs.Cycle.{iter, iter-in, Permutes}
 use Rattle.scope.proofs.Rings.{mem-ring, ring-fresh, ring-one, starts-stand}
+use Rattle.scope.proofs.Successor.{Reverses}
+use Rattle.scope.proofs.Linked.{true-has}
 use Rattle.scope.proofs.Sorted.{Perm, none, skip, swap, both}
 use Rattle.scope.proofs.RingOrder.{ordered-all}
 use Rattle.scope.proofs.Lengths.{lengths-good}
-use Rattle.scope.proofs.Sound.{Sound, sound-state, sound-linked}
+use Rattle.scope.proofs.Sound.{Sound, sound-state, sound-linked, sound-reverses, none-both}
 use Rattle.scope.proofs.Untouched.{rows-permute}
 use Rattle.scope.proofs.Run.{opened-shown, all-shown}
 
 -- ---- each edge is in one ring
 
@@ -87,16 +89,34 @@ module _ (v : View) (R : Permutes (length (v .rowSlot)) (λ r. standsAt (v .rowS
       fresh-append (ringAt v r) (edgeRows v l) (ring-fresh R r (stands r here)) (edges-fresh l (f .1) (λ q i. s q (List·Memᴰ·tail i)))
       (λ a i j. let z = in-ring v l a j in f .0 (Memᴰ·cast (ring-one R r (z .0) a here (s (z .0) (List·Memᴰ·tail (z .1))) i (z .2)) (z .1)))
 
-  pub edges-most : length (edgeRows v (ordered v)) ≤ length (v .rowSlot)
-  edges-most =
-      let low = lowestRows v in
-      let most = fresh-length n (edgeRows v low) (edges-fresh low (below-fresh _ n) (λ r i. i)) (λ a i.
-      let z = in-ring v low a i in
+  -- an edge that is read out stands
+  edge-stands : (a : ℕ) → List·Memᴰ a (edgeRows v (lowestRows v)) → standsAt (v .rowSlot) a ≡ true
+  edge-stands a i =
+      let z = in-ring v (lowestRows v) a i in
       let u = stands (z .0) (z .1) in
       let k = mem-ring R (z .0) a u (z .2) in
-      subst (λ (b : ℕ). b < n) (sym (k .1)) (R .small (iter _ (k .0) (z .0)) (iter-in R (k .0) (z .0) u))) in
+      subst (λ (b : ℕ). standsAt (v .rowSlot) b ≡ true) (sym (k .1)) (iter-in R (k .0) (z .0) u)
+
+  -- where of a row and its reverse at most one stands, what stands and its reverses are different rows
+  pub edges-half : (rev : ℕ → ℕ) → Reverses (λ a. a < n) rev → ((a : ℕ) → standsAt (v .rowSlot) a ≡ true → standsAt (v .rowSlot) (rev a) ≡ true → ⊥)
+      → 2 * length (edgeRows v (ordered v)) ≤ n
+  edges-half rev Q apart =
+      let l = edgeRows v (lowestRows v) in
+      let inside : (a : ℕ) → List·Memᴰ a l → a < n = λ a i. R .small a (edge-stands a i) in
+      let fresh = edges-fresh (lowestRows v) (below-fresh _ n) (λ r i. i) in
+      let back : Fresh (map rev l) = fresh-map rev l fresh (λ a b i j e. sym (Q .rev-rev a (inside a i)) ∙ ap rev e ∙ Q .rev-rev b (inside b j)) in
+      let most = fresh-length n (l ++ map rev l)
+      (fresh-append l (map rev l) fresh back (λ a i j.
+      let z = Memᴰ·of-map rev l j in
+      apart (z .0) (edge-stands (z .0) (z .1)) (subst (λ (b : ℕ). standsAt (v .rowSlot) b ≡ true) (sym (z .2)) (edge-stands a i))))
+      (λ a i. within rev l Q inside a (List·Memᴰ·append-cases l i)) in
+      let both = length-append l (map rev l) in
       let same = edges-perm v (ordered-all v) in
-      omega arith
+      omega (arith, length-map l rev)
+    where
+      within : (rev : ℕ → ℕ) (l : List ℕ) → Reverses (λ a. a < n) rev → ((a : ℕ) → List·Memᴰ a l → a < n) → (a : ℕ) → List·Memᴰ a l ⊎ List·Memᴰ a (map rev l) → a < n
+      within rev l Q inside a (inl i) = inside a i
+      within rev l Q inside a (inr j) = let z = Memᴰ·of-map rev l j in subst (λ (b : ℕ). b < n) (z .2) (Q .rev-in (z .0) (inside (z .0) (z .1)))
 
 -- ---- the calls
 
@@ -105,14 +125,17 @@ extra : (v : Verdict) (b : Bool) → (v ≡ Accepted → b ≡ true) → (v ▷ 
 extra Accepted b h = require-accepts b 10 0 (h refl)
 extra (Refused number index) b h = refl
 
-module _ (t : Table) (o : Output) (records : rowCount t ≤ length (o .start)) (rows : rowCount t ≤ length (o .edges)) where
+module _ (t : Table) (o : Output) (records : rowCount t ≤ 2 * length (o .start)) (rows : rowCount t ≤ 2 * length (o .edges)) where
   pub outputs-enough : {m : Memory} → Sound t m → outputFits (view t m) o ≡ true
   unfolding outputFits
   outputs-enough {m} S =
       let v = view t m in
+      let all = S .lengths .row-slot in
       let R : Permutes (length (m .rowSlot)) (λ r. hasSlot m r ≡ true) (nextRow (m .rowSlot) (m .slotRow) (m .next)) =
-      subst (λ (k : ℕ). Permutes k (λ r. hasSlot m r ≡ true) (nextRow (m .rowSlot) (m .slotRow) (m .next))) (sym (S .lengths .row-slot)) (rows-permute (sound-linked S)) in
-      let most = edges-most v R in let least = edges-least v (ordered v) in let all = S .lengths .row-slot in
+      subst (λ (k : ℕ). Permutes k (λ r. hasSlot m r ≡ true) (nextRow (m .rowSlot) (m .slotRow) (m .next))) (sym all) (rows-permute (sound-linked S)) in
+      let Q : Reverses (λ a. a < length (m .rowSlot)) (reverseOf t) = subst (λ (k : ℕ). Reverses (λ a. a < k) (reverseOf t)) (sym all) (sound-reverses S) in
+      let half = edges-half v R (reverseOf t) Q (λ a e d. none-both S a (true-has m a e) (true-has m (reverseOf t a) d)) in
+      let least = edges-least v (ordered v) in
       let a : length (ordered v) ≤ length (o .start) = omega arith in
       let b : length (edgeRows v (ordered v)) ≤ length (o .edges) = omega arith in
       and-both _ _ (le-leb _ _ a) (le-leb _ _ b)

@@ -2,9 +2,9 @@
 --     same-self       an outline that is read out is the same as itself
 --     afresh-again    the held cells, dissolved in the state's own memory, give what read out gives
 --     afresh-anew     so they do in any memory of the same sizes
---     always-same     so the audit says that the two are the same
+--     always-same     so the audit says that the two are the same, with outputs half as long as the table or longer
 -- Assumes nothing.
-use Prim.Native.Nat.{ℕ}
+use Prim.Native.Nat.{ℕ, _*_, _≤_}
 use mathlib.Core.Path.{_≡_, refl, sym, _∙_, ap}
 use mathlib.Core.Bool.{Bool, true, _&&_}
 use mathlib.Core.List.{List, [], _∷_}
@@ -20,8 +20,8 @@ use Rattle.scope.specs.declared.ReadOut.the-variants.{Nothing, Closed, Outline}
 use Rattle.scope.specs.Lists.{at, passes}
 use Rattle.scope.specs.Answers.{ifAccepted, verdictOf, kindOf, polygonsOf, ringsOf}
 use Rattle.scope.specs.Bytes.{areaBits}
-use Rattle.scope.specs.Table.{Table}
-use Rattle.scope.specs.Memory.{Memory, Output, opened, heldCells, places, slots, lengthsFit, modeFits}
+use Rattle.scope.specs.Table.{Table, rowCount}
+use Rattle.scope.specs.Memory.{Memory, Output, opened, heldCells, places, slots, lengthsFit, modeFits, outputsAgree}
 use Rattle.scope.specs.Pool.{taking}
 use Rattle.scope.specs.Order.{view}
 use Rattle.scope.specs.Calls.{Outcome, outcome, openVerdict, opening, offerVerdict, offering, offeringAll, Reading, readFrom, reading, readVerdict, readingOut, dissolving}
@@ -29,10 +29,11 @@ use Rattle.scope.proofs.Tests.{and-both}
 use Rattle.scope.proofs.Scan.{passes-all}
 use Rattle.scope.proofs.Verdicts.{both-accept, require-accepts}
 use Rattle.scope.proofs.Lengths.{Lengths, lengths-kept}
-use Rattle.scope.proofs.Sound.{offered}
+use Rattle.scope.proofs.Sound.{Sound, state-sound, offered}
 use Rattle.scope.proofs.Taking.{taken-room}
 use Rattle.scope.proofs.TakingRules.{pool-same}
 use Rattle.scope.proofs.TakingCells.{Shown}
+use Rattle.scope.proofs.EnoughRoom.{read-enough}
 use Rattle.scope.proofs.Run.{refused-not, all-shown, read-leaves, read-accepts}
 use Rattle.scope.proofs.Dissolving.{opened-places, opened-slots, open-table, open-lengths, open-shown, dissolve-is}
 use Rattle.taking.proofs.Sizes.{Sized, opened-same}
@@ -130,8 +131,11 @@ module _ (t : Table) (m : Memory) (opens : openVerdict t m 2 ≡ Accepted) (xs :
   leaves-last : offeringAll t fresh taken .left ≡ last
   leaves-last = ap (λ (o : Outcome). o .left) (accepted-all t fresh xs)
 
+  last-sound : Sound t last
+  last-sound = (rw leaves-last at (all-shown t fresh [] taken (open-shown t m 2 opens) all-taken)) .sound
+
   last-lengths : Lengths t last
-  last-lengths = (rw leaves-last at (all-shown t fresh [] taken (open-shown t m 2 opens) all-taken)) .sound .lengths
+  last-lengths = last-sound .lengths
 
   opens-again : openVerdict t last 2 ≡ Accepted
   unfolding openVerdict
@@ -166,7 +170,7 @@ module _ (t : Table) (m : Memory) (opens : openVerdict t m 2 ≡ Accepted) (xs :
 
 -- ---- in memory of full size
 
-module _ (t : Table) (opens : openVerdict t (fullMemory t) 2 ≡ Accepted) (xs : List ℕ) (o : Output) (r : readVerdict t (leftBy t (opened 2 (fullMemory t)) xs) o ≡ Accepted) where
+module _ (t : Table) (opens : openVerdict t (fullMemory t) 2 ≡ Accepted) (xs : List ℕ) (o : Output) where
   -- what is said of what stands
   abbrev judged : Standing → Bool
   judged s = comparing t (s .cells) (s .answer) (s .out) o .same
@@ -174,10 +178,13 @@ module _ (t : Table) (opens : openVerdict t (fullMemory t) 2 ≡ Accepted) (xs :
   abbrev stays : Memory
   stays = leftBy t (opened 2 (fullMemory t)) xs
 
-  pub always-same : auditing t xs o o .same ≡ true
+  same-read : readVerdict t stays o ≡ Accepted → auditing t xs o o .same ≡ true
   unfolding auditing standing readingFed beginning comparing drawing opening feeding
-  always-same =
+  same-read r =
       ap (λ (v : Verdict). judged (after t xs o (outcome v (opened 2 (fullMemory t)) (fullMemory t)))) opens
       ∙ ap (λ (k : Memory). sameDrawn (drawn (readingOut t stays o)) (drawn (dissolving t (fullMemory t) 2 (heldCells k) o))) (read-leaves t stays o)
       ∙ ap (sameDrawn (drawn (readingOut t stays o))) (afresh-anew t (fullMemory t) opens xs o r)
       ∙ same-self (drawn (readingOut t stays o)) (read-done t (fullMemory t) opens xs o r)
+
+  pub always-same : outputsAgree o ≡ true → rowCount t ≤ 2 * length (o .start) → rowCount t ≤ 2 * length (o .edges) → auditing t xs o o .same ≡ true
+  always-same agree records rows = same-read (read-enough t o records rows stays ∙ both-accept _ _ (require-accepts (outputsAgree o) 10 0 agree) (state-sound (last-sound t (fullMemory t) opens xs)))

@@ -1,5 +1,5 @@
-// Arrays of full size, for the programs: 65,536 rows, 65,536 slots, 16,384 places. They promise their length alone; nothing counts on
-// what is in them.
+// Arrays of full size, for the programs: 65,536 rows, 65,536 slots, 16,384 places. Those of an output promise that they hold zeros, so that
+// two outputs can be compared whole; the others their length alone: nothing counts on what is in them.
 //
 // They all lie on the stack, where a program is to stay under 7 MB. In bytes:
 //     a table      1,310,720   row_words, row_numbers, row_floats
@@ -10,7 +10,8 @@
 //     a text       1,310,720   text_bytes
 // A table, a state, an output, a list and a text are 5.6 MB.
 ghost use mathlib.Core.Path.{_≡_};
-ghost use lib.ListN.{length};
+ghost use lib.ListN.{length, replicate};
+ghost use Rattle.scope.specs.Area.{positiveZero};
 
 pub fn row_words() -> [u64; 65536]
     ensures { λ r. ⌜ 65536 ≡ length r ⌝ }
@@ -57,19 +58,19 @@ pub fn place_lines() -> [usize; 16384]
 
 // Of an edge and its reverse at most one stands, and a ring has an edge: so many rings and edges are enough for every table.
 pub fn ring_numbers() -> [u32; 32768]
-    ensures { λ r. ⌜ 32768 ≡ length r ⌝ }
+    ensures { λ r. ⌜ r ≡ replicate 32768 0 ⌝ }
 {
     [0; 32768]
 }
 
 pub fn ring_floats() -> [f64; 32768]
-    ensures { λ r. ⌜ 32768 ≡ length r ⌝ }
+    ensures { λ r. ⌜ r ≡ replicate 32768 positiveZero ⌝ }
 {
     [0.0; 32768]
 }
 
 pub fn edge_numbers() -> [u32; 32768]
-    ensures { λ r. ⌜ 32768 ≡ length r ⌝ }
+    ensures { λ r. ⌜ r ≡ replicate 32768 0 ⌝ }
 {
     [0; 32768]
 }

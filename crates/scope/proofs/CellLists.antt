@@ -4,23 +4,23 @@
 --     invalid-first     2 is told before 3, 4 and 8
 --     prefix-accepted   the first cells of a list that passes
 -- Assumes nothing.
-use Prim.Native.Nat.{ℕ, suc, _+_, _<_, _≤_}
+use Prim.Native.Nat.{ℕ, _+_, _<_, _≤_}
 use mathlib.Core.Path.{_≡_, refl, sym, _∙_, ap}
-use mathlib.Core.Bool.{Bool, true, false, not, _&&_, cond}
+use mathlib.Core.Bool.{Bool, true, false, not, cond}
 use mathlib.Core.List.{List, _++_}
 use mathlib.Core.Logic.{⊎-elim}
 use native.Mathlib.Decide.{decLt}
 use native.Mathlib.Omega.{arith}
-use lib.Dec.{eqb, leb, ltb}
+use lib.Dec.{leb}
 use lib.ListN.{length, List·getD-append, length-append}
 use borrow.Author.Tests.{eq-eqb, ne-eqb, lt-ltb, le-ltb, le-leb, eqb-true, leb-true}
 use Rattle.scope.specs.declared.Verdict.{Verdict}
 use Rattle.scope.specs.declared.Verdict.the-variants.{Accepted, Refused}
-use Rattle.scope.specs.Lists.{at, firstBad, passes}
-use Rattle.scope.specs.Answers.{require, requireNone, _▷_}
+use Rattle.scope.specs.Lists.{at, firstBad}
+use Rattle.scope.specs.Answers.{requireNone}
 use Rattle.scope.specs.Cells.{resolutionOf, validCell, under}
-use Rattle.scope.specs.CellLists.{isEven, validAt, differs, firstOfItsKind, resolutionFits, resolutionFitsAt, notUnder, underNone, inMixed, roomFor, listVerdict}
-use Rattle.scope.proofs.Tests.{either, clash, and-left}
+use Rattle.scope.specs.CellLists.{isEven, validAt, differs, firstOfItsKind, resolutionFits, resolutionFitsAt, notUnder, underNone, inMixed, listVerdict}
+use Rattle.scope.proofs.Tests.{either, clash}
 use Rattle.scope.proofs.Scan.{passes-at, passes-all, passes-not}
 use Rattle.scope.proofs.Verdicts.{first-accepts, second-accepts, both-accept, require-holds, require-accepts, none-fails, none-accepts}
 

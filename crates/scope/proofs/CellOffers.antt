@@ -4,23 +4,23 @@
 -- Assumes nothing.
 use Prim.Native.Nat.{ℕ, suc, _+_, _<_, _≤_}
 use mathlib.Core.Path.{_≡_, refl, sym, _∙_, ap}
-use mathlib.Core.Bool.{Bool, true, false, not, _&&_, cond}
+use mathlib.Core.Bool.{Bool, true, not}
 use mathlib.Core.List.{List, [], _∷_, _++_, append-assoc}
 use mathlib.Core.Logic.{⊎-elim}
 use native.Mathlib.Nat.{eq-or-lt-of-le}
 use native.Mathlib.Omega.{arith}
-use lib.Dec.{eqb, leb}
+use lib.Dec.{eqb}
 use lib.ListN.{length, List·getD-append, length-append}
 use lib.Seq.{getD-append-add}
 use borrow.Author.Tests.{ne-eqb}
 use Rattle.scope.specs.declared.Verdict.{Verdict}
-use Rattle.scope.specs.declared.Verdict.the-variants.{Accepted, Refused}
+use Rattle.scope.specs.declared.Verdict.the-variants.{Accepted}
 use Rattle.scope.specs.Lists.{at, firstBad, passes}
 use Rattle.scope.specs.Answers.{require, requireNone, _▷_}
-use Rattle.scope.specs.Cells.{validCell, under}
-use Rattle.scope.specs.CellLists.{isEven, validAt, differs, firstOfItsKind, resolutionFits, resolutionFitsAt, notUnder, underNone, inMixed, roomFor, listVerdict, notOver, cellVerdict}
-use Rattle.scope.proofs.Tests.{either, same}
-use Rattle.scope.proofs.Scan.{firstBad-same, passes-at, passes-all, passes-not}
+use Rattle.scope.specs.Cells.{validCell}
+use Rattle.scope.specs.CellLists.{validAt, differs, firstOfItsKind, resolutionFits, resolutionFitsAt, notUnder, underNone, listVerdict, notOver, cellVerdict}
+use Rattle.scope.proofs.Tests.{same}
+use Rattle.scope.proofs.Scan.{firstBad-same, passes-at, passes-all}
 use Rattle.scope.proofs.Verdicts.{none-accepts, require-more}
 use Rattle.scope.proofs.CellLists.{ListGood, list-good, prefix-accepted, not-under-itself}
 

@@ -92,13 +92,6 @@ pub record Period (f : ℕ → ℕ) (x p : ℕ) : Type 0 where
   pub back : iter f p x ≡ x
   pub least : (k : ℕ) → 0 < k → k < p → iter f k x ≢ x
 
-pub period-unique : {f : ℕ → ℕ} {x p q : ℕ} → Period f x p → Period f x q → p ≡ q
-period-unique {f} {x} {p} {q} P Q =
-    cases p q (λ e. e) (λ d. let a : p < q → ⊥ = low p q P Q in let b : q < p → ⊥ = low q p Q P in omega arith)
-  where
-    low : (p q : ℕ) → Period f x p → Period f x q → p < q → ⊥
-    low p q A B h = B .least p (A .some) h (A .back)
-
 -- every place of a ring is one of its first p
 pub around : {f : ℕ → ℕ} {x p : ℕ} → Period f x p → (k : ℕ) → (j : ℕ) × (j < p) × (iter f k x ≡ iter f j x)
 around P zero = (0, P .some, refl)

@@ -1,7 +1,7 @@
 -- Valid edges by their top byte, bits 56 to 63, which is 17 to 22; and an edge's owner.
 --     validEdge-is           the rule as tests of the top byte, the base cell, the digits and a pentagon's edge 1
 --     edge-parts, edge-top   what a valid edge has
---     owner-is, owner-low, owner-valid     its owner: the cell's top byte above the edge's low 56 bits, and a valid cell
+--     owner-is, owner-low    its owner: the cell's top byte above the edge's low 56 bits
 -- Assumes nothing.
 use Prim.Native.Nat.{ℕ, _+_, _-_, _*_, _/_, _%_, _^_, _<_, _≤_}
 use mathlib.Core.Path.{_≡_, _∙_}
@@ -68,9 +68,6 @@ module _ (x : ℕ) (valid : validEdge x ≡ true) where
 
   pub owner-low : ownerOf x % 2 ^ 56 ≡ x % 2 ^ 56
   owner-low = owner-low-at x (edge-top x valid .0) (edge-top x valid .1)
-
-  pub owner-valid : validCell (ownerOf x) ≡ true
-  owner-valid = edge-parts x valid .owned
 
 edge-rest : (x : ℕ) → 17 ≤ top x → top x ≤ 22
     → validEdge x ≡ (leb (baseCell x) 121 && all (digitFits x) 15 && not (isPentagon x && eqb (top x) 17))

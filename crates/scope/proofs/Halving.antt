@@ -14,7 +14,7 @@ use lib.Seq.{getD-set-same, getD-set-other}
 use lib.Dec.{eqb}
 use borrow.Author.Tests.{eq-eqb, ne-eqb}
 use Rattle.scope.specs.Lists.{at, total}
-use Rattle.scope.specs.UnionFind.{Halved, halve}
+use Rattle.scope.specs.UnionFind.{halve}
 use Rattle.scope.specs.Rules.{rootCount}
 use Rattle.scope.proofs.Sums.{by-eq, total-term, total-same}
 

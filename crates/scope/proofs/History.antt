@@ -1,5 +1,4 @@
--- DEMAND 3, over an abstract state: what offers leave is what is worked out afresh from the accepted cells, in whatever order they came.
---     Reached, reached-holds            ANY MIX OF ACCEPTED AND REFUSED OFFERS: the state holds what is worked out afresh
+-- DEMAND 3, over an abstract state that holds what is worked out afresh from its cells.
 --     same-rows, -links, -groups        IN WHATEVER ORDER: two states of the same cells hold the same rows, links and groups
 --     ring-left                         a ring that holds no reverse of an edge of the new outline is left as it was
 --     rows-afresh, link-afresh, ring-afresh, group-afresh     what is held is what the functions of Afresh compute
@@ -10,7 +9,6 @@ use mathlib.Core.Logic.{_↔_}
 use mathlib.Core.Bool.{not}
 use mathlib.Core.List.{List, [], _∷_, _++_, List·Memᴰ}
 use Prim.Native.Nat.{ℕ, suc, _<_}
-use native.Mathlib.Omega.{arith}
 use lib.Dec.{eqb}
 use lib.ListN.{length}
 use Rattle.scope.specs.Lists.{at, firstBad}
@@ -25,35 +23,7 @@ use Rattle.scope.proofs.OrderFree.{stands-free, successor-free, group-f
 use Rattle.scope.proofs.Agree.{stands-test, successor-agrees, successor-permutes, standing-permutes, rows-agree}
 use Rattle.scope.proofs.Groups.{group-by}
 use Rattle.scope.proofs.States.{State, Holds, Beside, PairsGone}
-use Rattle.scope.proofs.OneMore.{holds-offer, ring-untouched}
-
--- ---- any mix of accepted and refused offers
-
--- a state with nothing in it
-pub record Empty (s : State) : Type 0 where
-  pub none : (a : ℕ) → s .has a → ⊥
-
-pub holds-none : {t : Table} {s : State} → Empty s → Holds t [] s
-holds-none E = record {
-  stands = λ a h. absurd (E .none a h);
-  all = λ a h. absurd (h .0);
-  links = λ a h. absurd (E .none a h);
-  place = λ a h. absurd (E .none a h);
-  gives = λ a h. absurd (E .none a h);
-  groups = λ p q h. absurd (omega arith);
-}
-
--- the cells accepted since the state was opened, in the order of their acceptance; a refused offer leaves the state as it was
-pub data Reached (t : Table) : List ℕ → State → Type 1 where
-  opened : {s : State} → Empty s → Reached t [] s
-  refused : {cs : List ℕ} {s : State} (x : ℕ) → Reached t cs s → Reached t cs s
-  accepted : {cs : List ℕ} {x : ℕ} {s s₀ s′ : State} → Reached t cs s → Proper t (cs ++ (x ∷ [])) → Beside t x (length cs) s s₀
-      → PairsGone t (suc (length cs)) s₀ s′ → Reached t (cs ++ (x ∷ [])) s′
-
-pub reached-holds : {t : Table} {cs : List ℕ} {s : State} → Reached t cs s → Holds t cs s
-reached-holds (opened E) = holds-none E
-reached-holds (refused x r) = reached-holds r
-reached-holds (accepted r P B C) = holds-offer P (reached-holds r) B C
+use Rattle.scope.proofs.OneMore.{ring-untouched}
 
 -- ---- in whatever order
 

@@ -6,12 +6,10 @@
 --     labelled-none           every place its own label: no pair
 --     Merges n f g low top    of the n places, those of label low get label top
 --     labelled-pair           then g takes in one pair more, whose labels were low and top, either way round
---     labelled-new            one place more, with a label of its own
 -- Assumes nothing.
-use mathlib.Core.Path.{_≡_, refl, sym, _∙_, ap, subst}
+use mathlib.Core.Path.{_≡_, refl, sym, _∙_, subst}
 use mathlib.Core.Logic.{_⊎_, inl, inr, _≢_}
-use Prim.Native.Nat.{ℕ, suc, _<_}
-use native.Mathlib.Omega.{arith}
+use Prim.Native.Nat.{ℕ, _<_}
 use Rattle.scope.specs.Standing.{Chain, alone, pair, back, joined}
 use Rattle.scope.proofs.Members.{cases}
 use Rattle.scope.proofs.Chains.{chain-mono, chain-bind, chain-value}
@@ -49,16 +47,6 @@ labelled-none {E} n own none = record {
   sound = λ p q h k e. subst (Chain E p) (own p q h k e) alone;
   complete = λ p q e. absurd (none p q e);
   pairs-in = λ p q e. absurd (none p q e);
-}
-
--- one place more, with a label of its own
-pub labelled-new : {n : ℕ} {E : ℕ → ℕ → Type 0} {f : ℕ → ℕ} → ((p : ℕ) → p < n → f p ≢ f n) → Labelled n E f → Labelled (suc n) E f
-labelled-new {n} {E} {f} own L = record {
-  sound = λ p q h k e. cases p n
-      (λ x. cases q n (λ y. subst (Chain E p) (x ∙ sym y) alone) (λ y. absurd (own q (omega arith) (sym e ∙ ap f x))))
-      (λ x. cases q n (λ y. absurd (own p (omega arith) (e ∙ ap f y))) (λ y. L .sound p q (omega arith) (omega arith) e));
-  complete = L .complete;
-  pairs-in = λ p q e. let h = L .pairs-in p q e in (omega arith, omega arith);
 }
 
 -- ---- one pair more

@@ -1,7 +1,7 @@
 -- Laws of `Lands`: a step followed until a stop. The ring successor, the root of a parent forest and the closing of a ring are of this form.
 --     lands-unique, lands-stop, lands-stay     where it lands is one place, a stop; from a stop it stays
 --     lands-same                               the stops may be put in another way
---     stage-from, unstage                      STAGING: to return to a smaller set of stops through the first return to a larger one
+--     stage-from                               STAGING: to return to a smaller set of stops through the first return to a larger one
 --     lands-map                                a map of steps and stops takes landings to landings
 -- Assumes nothing.
 use mathlib.Core.Path.{_≡_, refl, sym, subst}
@@ -53,17 +53,6 @@ module _ {A : Type 0} where
   pub stage-from : {S₁ S₂ : A → Type 0} {f g : A → A} → ((a : A) → S₂ a → S₁ a) → ((a : A) → S₁ a → (S₂ a → ⊥) → Lands S₁ f (f a) (g a))
       → {x z y : A} → Lands S₁ f x z → Lands S₂ g z y → Lands S₂ f x y
   stage-from sub ret p q = lands-on sub p (stage sub ret (lands-stop p) q)
-
-  -- and back: what lands in S₂ directly lands there in stages
-  pub unstage : {S₁ S₂ : A → Type 0} {f g : A → A} → ((a : A) → S₂ a → S₁ a) → ((a : A) → Dec (S₁ a))
-      → ((a : A) → S₁ a → (S₂ a → ⊥) → Lands S₁ f (f a) (g a))
-      → {x y : A} → Lands S₂ f x y → (z : A) × Lands S₁ f x z × Lands S₂ g z y
-  unstage sub dec ret (here {x = x} s) = (x, here (sub x s), here s)
-  unstage {S₁} {S₂} {f} {g} sub dec ret {y = y} (on {x = x} n r) = go (dec x) (unstage sub dec ret r)
-    where
-      go : Dec (S₁ x) → (z : A) × Lands S₁ f (f x) z × Lands S₂ g z y → (z : A) × Lands S₁ f x z × Lands S₂ g z y
-      go (yes s) (z, p, q) = (x, here s, on n (lands-from (lands-unique p (ret x s n)) q))
-      go (no m) (z, p, q) = (z, on m p, q)
 
 -- A map h that takes stops to stops and steps to steps, on an invariant I of the walk, takes landings to landings.
 pub lands-map : {A B : Type 0} {S : A → Type 0} {f : A → A} {S′ : B → Type 0} {f′ : B → B} (h : A → B) (I : A → Type 0)

@@ -58,12 +58,6 @@ run c r (suc n) ps =
     let s = run c r n (move c r ps .positions) in
     record { positions = s .positions; changes = one (move c r ps .changed) + s .changes }
 
-run-other : (c r j q n : ℕ) (ps : List ℕ) → r < j
-    → run c r n (set ps j q) ≡ record { positions = set (run c r n ps .positions) j q; changes = run c r n ps .changes }
-unfolding run
-run-other c r j q zero ps h = refl
-run-other c r j q (suc n) ps h = rw (move-other c r j q ps h, run-other c r j q n (move c r ps .positions) h)
-
 -- the move of a level that does not ask its parent level, at position p, and of one that does
 pub level-alone : (c r p : ℕ) (ps : List ℕ) → Fine ps → r ≤ 15 → 0 < r → asksParent c r (set ps r p) ≡ false
     → move c r (set ps r p) ≡ record { positions = set ps r (nextPosition p false); changed = not (eqb (walkDigit (nextPosition p false)) (walkDigit p)) }

@@ -11,7 +11,6 @@ use lib.Dec.{eqb, leb, ltb}
 use lib.ListN.{length}
 use Rattle.scope.specs.declared.Verdict.{Verdict}
 use Rattle.scope.specs.declared.Verdict.the-variants.{Accepted, Refused}
-use Rattle.scope.specs.declared.ReadOut.{ReadOut}
 use Rattle.scope.specs.declared.ReadOut.the-variants as readout
 use Rattle.scope.specs.Lists.{firstBad, passes, headOr}
 use Rattle.scope.specs.Cells.{validCell}

@@ -1,6 +1,5 @@
 -- A NEWLY OPENED STATE keeps the rules, and shows that no cell is accepted.
 --     opened-lengths, opened-sound     where the table passes 1 and the lengths fit, it is sound
---     opened-rules                     the same as tests
 --     opened-shows                     it shows the empty list of cells
 -- Assumes nothing.
 use mathlib.Core.Path.{_≡_, refl, sym, _∙_}
@@ -15,14 +14,12 @@ use Rattle.scope.specs.declared.Verdict.the-variants.{Accepted}
 use Rattle.scope.specs.Lists.{at, total, zeros}
 use Rattle.scope.specs.Table.{Table, targetOf, tableVerdict}
 use Rattle.scope.specs.CellLists.{listVerdict}
-use Rattle.scope.specs.Memory.{Memory, opened, kept, hasSlot, lengthsFit}
-use Rattle.scope.specs.Rules.{rulesKept}
+use Rattle.scope.specs.Memory.{Memory, opened, kept, hasSlot}
 use Rattle.scope.specs.Demands.{Shows}
 use Rattle.scope.proofs.Tests.{le-or-lt}
 use Rattle.scope.proofs.CellLists.{list-accepted}
 use Rattle.scope.proofs.Rules.{RulesGood, not-zero}
-use Rattle.scope.proofs.RulesKept.{rules-kept}
-use Rattle.scope.proofs.Lengths.{Lengths, lengths-good, lengths-kept}
+use Rattle.scope.proofs.Lengths.{Lengths}
 use Rattle.scope.proofs.Sound.{Sound}
 
 pub zeros-length : (l : List ℕ) → length (zeros l) ≡ length l
@@ -90,9 +87,6 @@ module _ (t : Table) (m : Memory) (mode : ℕ) where
 
   pub opened-sound : tableVerdict t ≡ Accepted → Lengths t m → Sound t (opened mode m)
   opened-sound e l = record { table = e; lengths = opened-lengths l; rules = rules-opened }
-
-  pub opened-rules : lengthsFit t m ≡ true → (lengthsFit t (opened mode m) ≡ true) × (rulesKept t (opened mode m) ≡ true)
-  opened-rules l = (lengths-kept t (opened mode m) (opened-lengths (lengths-good t m l)), rules-kept t (opened mode m) rules-opened)
 
   no-slot : (a : ℕ) → hasSlot (opened mode m) a ≡ true → ⊥
   unfolding opened

@@ -2,10 +2,10 @@
 --     RoomIn                       a reading of outputs as long as these
 --     read-room, dissolve-room     the readings of the two calls
 -- Assumes nothing.
-use Prim.Native.Nat.{ℕ, zero, suc, _+_, _≤_, _<_}
+use Prim.Native.Nat.{ℕ, zero, suc, _+_, _≤_}
 use mathlib.Core.Path.{_≡_, refl, sym, _∙_, ap, subst}
 use mathlib.Core.Bool.{Bool, true, false, cond}
-use mathlib.Core.List.{List, [], _∷_, map}
+use mathlib.Core.List.{List, [], _∷_}
 use native.Mathlib.Omega.{arith}
 use lib.Dec.{eqb, leb}
 use lib.ListN.{length, length-append}
@@ -19,7 +19,7 @@ use Rattle.scope.specs.Answers.{ringsOf, require, _▷_}
 use Rattle.scope.specs.Table.{Table}
 use Rattle.scope.specs.Memory.{Memory, Output, held, opened, outputsAgree}
 use Rattle.scope.specs.Order.{View, view, ringAt, lowestRows, ringOrder, ordered, sizes, edgeRows, polygonCount, areaAt, readAnswer}
-use Rattle.scope.specs.Calls.{Reading, reading, readFrom, over, written, outputFits, stateVerdict, readVerdict, readingOut, offeringAll, dissolveVerdict, working, dissolving}
+use Rattle.scope.specs.Calls.{Reading, reading, readFrom, written, outputFits, stateVerdict, readVerdict, readingOut, offeringAll, dissolveVerdict, working, dissolving}
 use Rattle.scope.specs.Bytes.{edgeCount}
 use Rattle.scope.proofs.Tests.{and-left, and-right}
 use Rattle.scope.proofs.Verdicts.{second-accepts, require-holds}

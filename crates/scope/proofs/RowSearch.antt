@@ -1,10 +1,10 @@
 -- The row of an edge: `rowOf` is the lowest row that holds it, and in a table in order the only one.
---     row-holds, row-absent     below the row count it holds the edge; else no row does
+--     row-holds                 below the row count it holds the edge
 --     row-first, row-none       the lowest row that holds it, and the row count where none does
 --     row-is                    in a table in order a row that holds the edge is its row
 --     found-at, found-absent    what `findRow` answers in the two cases
 -- Assumes nothing.
-use Prim.Native.Nat.{ℕ, _<_, _≤_}
+use Prim.Native.Nat.{ℕ, _<_}
 use mathlib.Core.Path.{_≡_, ap}
 use mathlib.Core.Bool.{not}
 use mathlib.Core.List.{List}
@@ -14,7 +14,6 @@ use borrow.Author.Tests.{eq-eqb, ne-eqb, eqb-true, lt-ltb, le-ltb, not-false}
 use Rattle.scope.specs.declared.Found.the-variants.{At, Absent}
 use Rattle.scope.specs.Lists.{at}
 use Rattle.scope.specs.Table.{isOther, rowOf, findRow}
-use Rattle.scope.proofs.Tests.{clash}
 use Rattle.scope.proofs.Scan.{Lowest, firstBad-lowest, firstBad-is}
 use Rattle.scope.proofs.Tables.{Ascending}
 
@@ -23,14 +22,8 @@ module _ (es : List ℕ) (e : ℕ) where
   unfolding rowOf
   lowest = firstBad-lowest (isOther es e) (length es)
 
-  pub row-most : rowOf es e ≤ length es
-  row-most = lowest .within
-
   pub row-holds : rowOf es e < length es → at es (rowOf es e) ≡ e
   row-holds h = eqb-true _ _ (not-false _ (lowest .here h))
-
-  pub row-absent : length es ≤ rowOf es e → (a : ℕ) → a < length es → at es a ≡ e → ⊥
-  row-absent h a l q = clash (lowest .before a (omega arith)) (ap not (eq-eqb (at es a) e q))
 
   -- the lowest that holds it
   pub row-first : (a : ℕ) → a < length es → at es a ≡ e → ((k : ℕ) → k < a → at es k ≡ e → ⊥) → a ≡ rowOf es e

@@ -5,18 +5,17 @@
 -- Assumes nothing.
 use Prim.Native.Nat.{ℕ, _+_, _-_, _<_, _≤_}
 use mathlib.Core.Path.{_≡_, refl, ap}
-use mathlib.Core.Bool.{Bool, true, false, _&&_, _||_, not, cond}
+use mathlib.Core.Bool.{Bool, true, false, _&&_, _||_, not}
 use native.Mathlib.Omega.{arith}
-use lib.Dec.{eqb, leb, ltb}
+use lib.Dec.{eqb, ltb}
 use lib.ListN.{length}
 use borrow.Author.Tests.{eq-eqb, ne-eqb, eqb-true, leb-true, ltb-true}
 use Rattle.scope.specs.declared.Verdict.the-variants.{Accepted}
-use Rattle.scope.specs.Lists.{at, passes, total}
-use Rattle.scope.specs.Answers.{isAccepted}
+use Rattle.scope.specs.Lists.{at, total}
 use Rattle.scope.specs.Table.{Table, rowCount, reverseOf, targetOf}
 use Rattle.scope.specs.CellLists.{listVerdict}
-use Rattle.scope.specs.Memory.{Memory, keptMode, held, heldCells, places, slots, isUsed, rowIn, hasSlot, slotOf}
-use Rattle.scope.specs.Rules.{headKept, cellsKept, rowKept, pointsBack, ownedBy, cellKept, linkUsed, linksKept, reverseFree, freeKept, usedKept, slotKept, clearedAt, marksKept, isRoot, parentKept, rootCount, ranksKept, rulesKept}
+use Rattle.scope.specs.Memory.{Memory, keptMode, held, heldCells, places, slots, rowIn, hasSlot, slotOf}
+use Rattle.scope.specs.Rules.{rowKept, ownedBy, linksKept, freeKept, usedKept, slotKept, clearedAt, isRoot, parentKept, rootCount, ranksKept, rulesKept}
 use Rattle.scope.proofs.Tests.{clash, and-left, and-right}
 use Rattle.scope.proofs.Scan.{passes-at}
 use Rattle.scope.proofs.Verdicts.{accepted}

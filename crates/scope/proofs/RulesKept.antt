@@ -1,17 +1,17 @@
 -- A state that has the facts of `RulesGood` passes the rules for 9.
 -- Assumes nothing.
-use Prim.Native.Nat.{ℕ, _+_, _-_, _<_, _≤_}
+use Prim.Native.Nat.{ℕ, _-_, _<_, _≤_}
 use mathlib.Core.Path.{_≡_, refl, sym, ap}
-use mathlib.Core.Bool.{Bool, true, false, _&&_, _||_, not, cond}
+use mathlib.Core.Bool.{Bool, true, false, _||_, not}
 use mathlib.Core.Logic.{⊎-elim}
 use native.Mathlib.Omega.{arith}
-use lib.Dec.{eqb, leb, ltb}
+use lib.Dec.{eqb}
 use lib.ListN.{length}
 use borrow.Author.Tests.{eq-eqb, lt-ltb, le-leb, eqb-true, eqb-false}
 use Rattle.scope.specs.Lists.{at}
 use Rattle.scope.specs.Answers.{isAccepted}
 use Rattle.scope.specs.Table.{Table, rowCount}
-use Rattle.scope.specs.Memory.{Memory, held, slots, isUsed, hasSlot}
+use Rattle.scope.specs.Memory.{Memory, held, slots, hasSlot}
 use Rattle.scope.specs.Rules.{rowKept, linkUsed, linksKept, slotKept, clearedAt, isRoot, parentKept, ranksKept, rulesKept}
 use Rattle.scope.proofs.Tests.{either, and-both}
 use Rattle.scope.proofs.Scan.{passes-all}

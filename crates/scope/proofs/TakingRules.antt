@@ -1,32 +1,27 @@
 -- ONE MORE CELL KEEPS THE RULES: a sound state that accepts a cell is sound when it has taken it.
 --     taken-lengths     every slice keeps its length
 --     taken-sound       the state is sound again
---     taking-rules      the same from the tests: after an accepted offer the lengths fit and the rules for 9 are kept
 -- Assumes nothing.
 use mathlib.Core.Path.{_≡_, sym, _∙_, ap}
 use mathlib.Core.Logic.{⊎-elim}
-use mathlib.Core.Bool.{true, false}
+use mathlib.Core.Bool.{false}
 use mathlib.Core.List.{[], _∷_, _++_}
 use Prim.Native.Nat.{ℕ, suc, _+_, _-_, _<_}
 use native.Mathlib.Omega.{arith}
 use lib.ListN.{length, length-set}
-use Rattle.scope.specs.declared.Verdict.the-variants.{Accepted}
 use Rattle.scope.specs.Lists.{at}
 use Rattle.scope.specs.Table.{Table, reverseOf, targetOf}
-use Rattle.scope.specs.Memory.{Memory, keptMode, held, heldCells, places, slots, rowIn, lengthsFit}
-use Rattle.scope.specs.Rules.{rulesKept}
+use Rattle.scope.specs.Memory.{Memory, keptMode, held, heldCells, places, slots, rowIn}
 use Rattle.scope.specs.Pool.{stays, taking}
-use Rattle.scope.specs.Calls.{offerVerdict}
 use Rattle.scope.proofs.Tests.{either}
 use Rattle.scope.proofs.CellLists.{ListGood, list-accepted}
 use Rattle.scope.proofs.Rules.{SlotUsed, SlotFree, RulesGood}
-use Rattle.scope.proofs.RulesKept.{rules-kept}
 use Rattle.scope.proofs.Members.{cases}
-use Rattle.scope.proofs.Lengths.{Lengths, lengths-kept}
+use Rattle.scope.proofs.Lengths.{Lengths}
 use Rattle.scope.proofs.Linked.{at-in, Used, has-in, row-has, slot-used, stays-used}
 use Rattle.scope.proofs.Cancelling.{cell-left, row-left, cancelled-used, used-left, cancelled-none}
 use Rattle.scope.proofs.Pairs.{united-length}
-use Rattle.scope.proofs.Sound.{Sound, sound-reverses, Offered, offered, offered-cells, offered-room, more-count}
+use Rattle.scope.proofs.Sound.{Sound, sound-reverses, Offered, offered-cells, offered-room, more-count}
 use Rattle.scope.proofs.Taking.{placedFor, onePlaceMore, pairsMet, placed-parents, taken-parent, taken-cell-mark, taken-row-mark, taken-cancelled, taken-head, taken-held, taken-mode, taken-room, taken-cells, offered-placed, offered-linked, taken-linked, placed-cell, placed-owned, taken-forest}
 
 module _ {t : Table} {m : Memory} {x : ℕ} (O : Offered t m x) where
@@ -126,8 +121,3 @@ module _ {t : Table} {m : Memory} {x : ℕ} (O : Offered t m x) where
 
   pub taken-sound : Sound t (taking t m x)
   taken-sound = record { table = O .sound .table; lengths = taken-lengths; rules = taken-rules }
-
-pub taking-rules : (t : Table) (m : Memory) (x : ℕ) → offerVerdict t m x ≡ Accepted → (lengthsFit t (taking t m x) ≡ true) × (rulesKept t (taking t m x) ≡ true)
-taking-rules t m x e =
-    let S = taken-sound (offered t m x e) in
-    (lengths-kept t (taking t m x) (S .lengths), rules-kept t (taking t m x) (S .rules))

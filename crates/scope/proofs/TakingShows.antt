@@ -1,25 +1,21 @@
 -- ONE MORE CELL SHOWS IT: a state that shows its accepted cells, and accepts a cell, shows these cells with that one when it has taken it.
 --     shown-holds       a state that shows its cells holds them, as the laws of History ask
 --     taken-shown       what a run of calls keeps, is kept
---     taking-shows      the same for any list of cells that the state shows
 -- Assumes nothing.
 use mathlib.Core.Path.{_≡_, sym, _∙_, ap, subst}
 use mathlib.Core.List.{List, [], _∷_, _++_}
 use Prim.Native.Nat.{ℕ, suc, _<_}
 use lib.ListN.{length}
-use Rattle.scope.specs.declared.Verdict.the-variants.{Accepted}
 use Rattle.scope.specs.Lists.{at}
 use Rattle.scope.specs.Table.{Table}
 use Rattle.scope.specs.Memory.{Memory, held, heldCells, slotOf}
 use Rattle.scope.specs.Pool.{taking}
-use Rattle.scope.specs.Calls.{offerVerdict}
-use Rattle.scope.specs.Demands.{Shows}
 use Rattle.scope.proofs.Proper.{Proper}
 use Rattle.scope.proofs.States.{Holds, Beside, PairsGone}
 use Rattle.scope.proofs.StateOf.{stateOf, shows-holds, holds-shows}
 use Rattle.scope.proofs.OneMore.{holds-offer}
 use Rattle.scope.proofs.Linked.{at-in, Has, slot-used}
-use Rattle.scope.proofs.Sound.{sound-linked, held-count, Offered, offered}
+use Rattle.scope.proofs.Sound.{sound-linked, held-count, Offered}
 use Rattle.scope.proofs.Taking.{placedFor, taken-cells}
 use Rattle.scope.proofs.TakingRules.{taken-sound}
 use Rattle.scope.proofs.TakingCells.{Shown, proper-more}
@@ -56,10 +52,3 @@ module _ {t : Table} {m : Memory} {cs : List ℕ} {x : ℕ} (S : Shown t m cs) (
         shows = holds-shows t (taking t m x) (cs ++ (x ∷ [])) (T .lengths .row-slot) (sym (held-count T) ∙ ap length held-is) held-is
             (holds-offer shown-proper (shown-holds S) shown-beside shown-gone);
       }
-
-pub taking-shows : (t : Table) (m : Memory) (x : ℕ) (cs : List ℕ) → offerVerdict t m x ≡ Accepted → Proper t cs → Shows t m cs
-    → Proper t (cs ++ (x ∷ [])) × Shows t (taking t m x) (cs ++ (x ∷ []))
-taking-shows t m x cs e P shows =
-    let O = offered t m x e in
-    let K = taken-shown (record { sound = O .sound; proper = P; shows = shows }) O in
-    (K .proper, K .shows)

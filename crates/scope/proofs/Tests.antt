@@ -12,7 +12,6 @@ use mathlib.Core.Bool.{Bool, true, false, _&&_, not}
 use mathlib.Core.Logic.{_⊎_, inl, inr, ⊎-elim}
 use native.Mathlib.Nat.{eq-or-lt-of-le}
 use native.Mathlib.Decide.{decLe}
-use native.Mathlib.Numerals.{sub-one}
 use native.Mathlib.Omega.{arith}
 use borrow.Author.Tests.{not-true, not-false}
 use Rattle.scope.specs.Lists.{all}
@@ -66,17 +65,6 @@ and-true true = refl
 and-true false = refl
 
 -- ---- a run of tests
-
-pub all-step : (f : ℕ → Bool) (n : ℕ) → 0 < n → all f n ≡ (f n && all f (n - 1))
-unfolding all
-all-step f zero h = absurd (omega arith)
-all-step f (suc n) h = ap (λ (k : ℕ). f (suc n) && all f k) (sym (sub-one (suc n)))
-
-pub all-stop : (f : ℕ → Bool) (n : ℕ) → 0 < n → f n ≡ false → all f n ≡ false
-all-stop f n h e = all-step f n h ∙ ap (λ (b : Bool). b && all f (n - 1)) e
-
-pub all-pass : (f : ℕ → Bool) (n : ℕ) → 0 < n → f n ≡ true → all f n ≡ all f (n - 1)
-all-pass f n h e = all-step f n h ∙ ap (λ (b : Bool). b && all f (n - 1)) e
 
 -- a run that passes, passes at each number, and the other way round
 pub all-at : (f : ℕ → Bool) (n : ℕ) → all f n ≡ true → (k : ℕ) → 0 < k → k ≤ n → f k ≡ true

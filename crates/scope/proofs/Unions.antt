@@ -7,14 +7,14 @@
 use mathlib.Core.Path.{_≡_, refl, sym, ap, _∙_}
 use mathlib.Core.List.{List}
 use mathlib.Core.Bool.{Bool, true, false, cond}
-use Prim.Native.Nat.{ℕ, zero, suc, _+_, _≤_, _<_}
+use Prim.Native.Nat.{ℕ, suc, _+_, _≤_, _<_}
 use native.Mathlib.Omega.{arith}
 use lib.ListN.{length, set, length-set}
 use lib.Seq.{getD-set-same, getD-set-other}
-use lib.Dec.{eqb, ltb}
+use lib.Dec.{ltb}
 use borrow.Author.Tests.{eq-eqb, ne-eqb, ltb-true, ltb-false}
 use Rattle.scope.specs.Lists.{at, total}
-use Rattle.scope.specs.UnionFind.{finding, United, hang, uniteRoots, uniting}
+use Rattle.scope.specs.UnionFind.{finding, hang, uniteRoots, uniting}
 use Rattle.scope.specs.Rules.{rootCount}
 use Rattle.scope.proofs.Sums.{by-eq, total-term, total-same, total-change}
 use Rattle.scope.proofs.Halving.{Forest, rootAt, halve-keeps, halve-held, halve-root, halve-roots}

@@ -10,17 +10,15 @@
 use mathlib.Core.Path.{_≡_, refl, sym, _∙_, ap}
 use mathlib.Core.Logic.{⊎-elim}
 use mathlib.Core.Bool.{Bool, true, false, cond}
-use mathlib.Core.List.{List, [], _∷_, _++_, map, List·Memᴰ, List·Memᴰ·head, List·Memᴰ·tail}
-use Prim.Native.Nat.{ℕ, zero, suc, _+_}
-use lib.Dec.{eqb, leb}
-use lib.Ieee.{Float, nan}
-use lib.ListN.{length, getD}
+use mathlib.Core.List.{List, [], _∷_, map, List·Memᴰ, List·Memᴰ·head, List·Memᴰ·tail}
+use Prim.Native.Nat.{ℕ, _+_}
+use lib.Dec.{eqb}
+use lib.ListN.{length}
 use Rattle.scope.specs.declared.ReadOut.{ReadOut}
 use Rattle.scope.specs.declared.ReadOut.the-variants.{Nothing, Closed, Outline}
 use Rattle.scope.specs.Lists.{below, keep, headOr}
 use Rattle.scope.specs.Afresh.{ring, startsRing}
-use Rattle.scope.specs.Area.{areaOf, areaLe}
-use Rattle.scope.specs.Order.{View, sortBy, thenBy, by, descending, standsAt, nextRow, ringAt, lowestRows, areaAt, groupAt, withinPolygon, outerAt, polygonOrder, ringOrder, ordered, polygonCount, starts, sizes, edgeRows, readAnswer}
+use Rattle.scope.specs.Order.{View, sortBy, standsAt, nextRow, ringAt, lowestRows, areaAt, groupAt, withinPolygon, outerAt, ringOrder, ordered, polygonCount, starts, sizes, edgeRows, readAnswer}
 use Rattle.scope.proofs.Tests.{either, clash}
 use Rattle.scope.proofs.Members.{mem-below}
 use Rattle.scope.proofs.Below.{below-same}

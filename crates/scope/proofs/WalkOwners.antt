@@ -1,7 +1,6 @@
 -- The edges of a valid cell's outline: each is a valid edge of the target's resolution, owned by the cell or by a cell under it.
 --     OutlineEdge      what is said of an edge
 --     outline-edges    it holds of each edge of an outline
---     outline-at       the same, by the edge's place
 -- Assumes nothing.
 use mathlib.Core.Path.{_≡_, refl, _∙_, sym, subst}
 use mathlib.Core.Bool.{Bool, true, false, cond, _&&_}
@@ -11,7 +10,6 @@ use Prim.Native.Nat.{ℕ, zero, suc, _+_, _-_, _*_, _/_, _^_, _<_, _≤_}
 use native.Mathlib.Nat.{eq-or-lt-of-le}
 use native.Mathlib.Omega.{arith}
 use lib.Dec.{eqb, leb, ltb, lit<}
-use lib.ListN.{length}
 use borrow.Author.Tests.{eq-eqb, le-leb, lt-leb, lt-ltb, le-ltb, leb-true, ltb-true, eqb-true}
 use Rattle.scope.specs.Lists.{at, member}
 use Rattle.scope.specs.Cells.{modeOf, edgeNumber, resolutionOf, baseCell, digit, digitFits, digitZero, pentagonBaseCells, validCell, isPentagon, ownerOf, validEdge, under}
@@ -20,7 +18,6 @@ use Rattle.scope.proofs.Tests.{le-or-lt, never, and-right, all-at, all-
 use Rattle.scope.proofs.Cells.{validCell-is}
 use Rattle.scope.proofs.ValidCells.{cell-base, cell-digit, cell-head}
 use Rattle.scope.proofs.Entries.{every, entry}
-use Rattle.scope.proofs.Members.{mem-at}
 use Rattle.scope.proofs.Spell.{built, built-top, built-mode, built-edge, built-resolution, built-base, spell-read, spell-same, spell-high, spell-own}
 use Rattle.scope.proofs.Walks.{digitsAt, digits-lt, walkDigit-lt, walkedDigit-lt, edgeDirection-lt, edge-is}
 use Rattle.scope.proofs.WalkStarts.{own-digit}
@@ -184,6 +181,3 @@ outline-edges x t valid deep e m =
     (λ v f s g. edge-holds x t v valid h deep f s g) e (rw (le-leb c t h) at m))
     (λ (h : t < c). absurd (List·Memᴰ·not-nil (rw (lt-leb c t h) at m)))
     (le-or-lt c t)
-
-pub outline-at : (x t : ℕ) → validCell x ≡ true → t ≤ 15 → (i : ℕ) → i < length (outline x t) → OutlineEdge x t (at (outline x t) i)
-outline-at x t valid deep i h = outline-edges x t valid deep _ (mem-at (outline x t) i h)

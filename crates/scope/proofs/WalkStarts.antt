@@ -1,5 +1,5 @@
--- The first walk of an outline: at the cell's own resolution, one level deeper, and at each level.
---     first-own, first-deeper    the positions at the cell's resolution, and with one more level
+-- The first walk of an outline: at the cell's own resolution, and at each level.
+--     first-own                  the positions at the cell's resolution
 --     first-at                   the position at a level
 --     edge-own, edge-deeper      the edge there
 --     tabulate-at, tabulate-*    laws of `tabulateFrom`
@@ -89,18 +89,6 @@ first-own c =
     (tabulate-same (λ r. cond (leb r c) (firstPosition c r) 0) (λ r. 0) 0 16
     (λ i h.
     ⊎-elim (λ (a : i ≤ c). rw (le-leb i c a, le-ltb (c + 1) i (omega arith))) (λ (a : c < i). rw (lt-leb i c a)) (le-or-lt i c))))
-
--- one level deeper, the position there is set
-pub first-deeper : (c t : ℕ) (w : Walk) → t < 15 → w ≡ firstWalk c t
-    → record { positions = set (w .positions) (t + 1) (firstPosition c (t + 1)); edgePosition = w .edgePosition } ≡ firstWalk c (t + 1)
-unfolding firstWalk
-first-deeper c t w h e =
-    let f : ℕ → ℕ = λ r. cond (leb r t) (firstPosition c r) 0 in
-    let g : ℕ → ℕ = λ r. cond (leb r (t + 1)) (firstPosition c r) 0 in
-    let a : g (t + 1) ≡ firstPosition c (t + 1) = rw (le-leb (t + 1) (t + 1) (omega arith)) in
-    rw (e, ← a)
-    (ap (λ (l : List ℕ). record { positions = l; edgePosition = 0 })
-    (tabulate-set f g 0 16 (t + 1) (t + 1) (omega arith) (omega arith) (λ i ne. rw (level-other i t ne))))
 
 -- ---- the edge there
 

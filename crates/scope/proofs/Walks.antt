@@ -1,9 +1,9 @@
--- Laws of the walk's definitions: what a position, an edge position and a level say of the edge, and how a step and the edges unfold.
---     edge-positioned, edge-turned    one position, or the edge position, is another: what changes in the edge
+-- Laws of the walk's definitions: what a position and a level say of the edge, and how a step and the edges unfold.
+--     edge-positioned                 one position is another: what changes in the edge
 --     edge-lt                         the edge has its bit 63 zero
 --     move-is, settled-*, asks-*      a level moves, after its parent level or alone
 --     step-moved, step-still          a step below the cell's resolution, and at it
---     edges-give, edges-pass          one step of the edges
+--     edges-give                      one step of the edges, where it is not passed over
 -- Assumes nothing.
 use mathlib.Core.Path.{_≡_, refl, ap, sym}
 use mathlib.Core.Bool.{Bool, true, false, cond}
@@ -76,12 +76,6 @@ module _ (x c t : ℕ) (w : Walk) (r q : ℕ) (above : c < r) (within : r ≤ t)
       rw (← new, ← old)
       (spell-put _ (walkedDigit x c t w) (walkedDigit x c t positioned) 15 r (omega arith) (omega arith) other)
 
--- the edge position is another
-pub edge-turned : (x c t : ℕ) (w : Walk) (e : ℕ)
-    → edgeAt x c t w + edgeDirection e * 2 ^ 56
-    ≡ edgeAt x c t (record { positions = w .positions; edgePosition = e }) + edgeDirection (w .edgePosition) * 2 ^ 56
-edge-turned x c t w e = rw (edge-is x c t w, edge-is x c t (record { positions = w .positions; edgePosition = e })) (omega arith)
-
 -- ---- a level moves
 
 pub asks-yes : (c r : ℕ) (ps : List ℕ) → c + 1 < r → at ps r % 3 ≡ r % 2 → asksParent c r ps ≡ true
@@ -125,13 +119,6 @@ unfolding edges
 edges-give p x c t zero w h e = absurd (omega arith)
 edges-give p x c t (suc n) w h e =
     rw e (ap (λ (k : ℕ). edgeAt x c t w ∷ edges p x c t k (step c t w)) (sym (sub-one (suc n))))
-
-pub edges-pass : (p : Bool) (x c t n : ℕ) (w : Walk) → 0 < n → passedOver p c t w ≡ true
-    → edges p x c t n w ≡ edges p x c t (n - 1) (step c t w)
-unfolding edges
-edges-pass p x c t zero w h e = absurd (omega arith)
-edges-pass p x c t (suc n) w h e =
-    rw e (ap (λ (k : ℕ). edges p x c t k (step c t w)) (sym (sub-one (suc n))))
 
 -- a hexagon passes over no step
 pub passed-none : (p : Bool) (c t : ℕ) (w : Walk) → p ≡ false → passedOver p c t w ≡ false

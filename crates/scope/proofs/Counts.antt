@@ -84,7 +84,7 @@ module _ {t : Table} {m : Memory} {cs : List ℕ} (S : Shown t m cs) where
         here = λ _. ap not (member-true (K .gives r h));
       }))
 
-  group-is : (r : ℕ) → hasSlot m r ≡ true → groupAt (view t m) r ≡ ringGroup t cs (ring (rowCount t) (successor t cs) r)
+  pub group-is : (r : ℕ) → hasSlot m r ≡ true → groupAt (view t m) r ≡ ringGroup t cs (ring (rowCount t) (successor t cs) r)
   unfolding ringGroup ring
   group-is r e = shown-group S r e ∙ ap (groupPlace t cs) (sym (giver-is r e))
 

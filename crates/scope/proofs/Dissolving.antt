@@ -72,7 +72,7 @@ module _ (t : Table) (m : Memory) (mode : ℕ) (e : openVerdict t m mode ≡ ver
     abbrev last : Memory
     last = offeringAll t (opened mode m) xs .left
 
-    last-shown : Shown t (offeringAll t (opened mode m) xs .left) xs
+    pub last-shown : Shown t (offeringAll t (opened mode m) xs .left) xs
     last-shown = all-shown t (opened mode m) [] xs open-shown a
 
     last-mode : keptMode (offeringAll t (opened mode m) xs .left) ≡ kept mode

@@ -75,6 +75,7 @@ pub mod AreaOrder
 pub mod Orders
 pub mod Sorting
 pub mod Sorted
+pub mod Perms
 pub mod RingOrder
 pub mod Polygons
 pub mod ReadRoom
@@ -98,6 +99,10 @@ pub mod DissolveRuns
 pub mod Begun
 pub mod ShownAfresh
 pub mod Counts
+pub mod Drawn
+pub mod DrawnRows
+pub mod ShownDrawn
+pub mod Written
 pub mod RingsLeft
 -- Room that is always enough
 pub mod EnoughRoom

@@ -44,16 +44,16 @@ module _ (P : ℕ → Type 0) where
   all-mem [] f = tt
   all-mem (x ∷ l) f = (f x (List·Memᴰ·head refl), all-mem l (λ y m. f y (List·Memᴰ·tail m)))
 
-  all-keep : (ok : ℕ → Bool) (l : List ℕ) → All P l → All P (keep ok l)
+  pub all-keep : (ok : ℕ → Bool) (l : List ℕ) → All P l → All P (keep ok l)
   unfolding keep
   all-keep ok [] a = tt
   all-keep ok (x ∷ l) a = ⊎-elim (λ e. rw e (a .0, all-keep ok l (a .1))) (λ e. rw e (all-keep ok l (a .1))) (either (ok x))
 
-  all-head : (d : ℕ) (l : List ℕ) → P d → All P l → P (headOr d l)
+  pub all-head : (d : ℕ) (l : List ℕ) → P d → All P l → P (headOr d l)
   all-head d [] p a = p
   all-head d (x ∷ l) p a = a .0
 
-  keep-cong : (ok ko : ℕ → Bool) → ((x : ℕ) → P x → ok x ≡ ko x) → (l : List ℕ) → All P l → keep ok l ≡ keep ko l
+  pub keep-cong : (ok ko : ℕ → Bool) → ((x : ℕ) → P x → ok x ≡ ko x) → (l : List ℕ) → All P l → keep ok l ≡ keep ko l
   unfolding keep
   keep-cong ok ko e [] a = refl
   keep-cong ok ko e (x ∷ l) a = rw (e x (a .0), keep-cong ok ko e l (a .1))

@@ -18,11 +18,14 @@ use Rattle.scope.specs.CellLists.{listVerdict, cellVerdict}
 use Rattle.scope.specs.Memory.{Memory, kept, keptMode, heldCells, places, lengthsFit, modeFits, tableAgrees}
 use Rattle.scope.specs.Rules.{rulesKept}
 use Rattle.scope.specs.Calls.{stateVerdict}
+use Rattle.scope.proofs.Tests.{and-right}
+use Rattle.scope.proofs.Lengths.{lengths-good}
 use Rattle.scope.proofs.Verdicts.{accepted, first-accepts, second-accepts, require-holds}
 use Rattle.scope.proofs.Tables.{table-good}
 use Rattle.scope.proofs.Sound.{sound-state, sound-table}
 use Rattle.answers.proofs.InARow.{then-stops, then-goes-on}
 use Rattle.edge_table.specs.Checks.{checked}
+use Rattle.rules.specs.Slices.{Lent}
 use Rattle.admission.specs.Admits.{tableAfter, openAfter, listAfter, stateAfter, admits, CellAsks}
 use Rattle.admission.proofs.Fitting.{state-is}
 
@@ -63,6 +66,15 @@ module _ (t : Table) (fits : Bool) (mode : ℕ) {v : Verdict} (q : v ≡ openAft
 module _ (t : Table) (m : Memory) (agree : Bool) {fits : Bool} {v : Verdict} (f : fits ≡ lengthsFit t m) (q : v ≡ tableAfter (agree && fits) t) where
   tested : v ≡ tableAfter (agree && lengthsFit t m) t
   tested = q ∙ ap (λ (b : Bool). tableAfter (agree && b) t) f
+
+  pub rules-asks : isAccepted v ≡ true → Lent t m
+  unfolding tableAfter checked
+  rules-asks e =
+      let all = sym tested ∙ accepted v e in
+      let rest = second-accepts (require (agree && lengthsFit t m) 10 0) _ all in
+      let fits = and-right agree (lengthsFit t m) (require-holds (agree && lengthsFit t m) 10 0 (first-accepts _ _ all)) in
+      let T = table-good t (require-holds (tableAgrees t) 10 0 (first-accepts _ (tableVerdict t) rest)) (second-accepts (require (tableAgrees t) 10 0) _ rest) in
+      record { lengths = lengths-good t m fits; most-rows = T .most }
 
   pub state-stops : isAccepted v ≡ false → v ≡ stateAfter agree t m
   state-stops e = then-stops (tableAfter (agree && lengthsFit t m) t) (require (rulesKept t m) 9 0) tested e ∙ state-is t m agree

@@ -3,4 +3,5 @@ pub mod Totals
 pub mod Sweeps
 pub mod Counted
 pub mod Ahead
+pub mod Ranges
 pub mod Whole

@@ -1,15 +1,16 @@
--- Memories of which a rule reads some slices only; the others are left empty. How many numbers of a slice are not 0. And a slot's rules
--- with the link ahead alone.
+-- Memories of which a rule reads some slices only; the others are left empty. How many numbers of a slice are not 0. A slot's rules
+-- with the link ahead alone. And what is asked of the slices.
 -- Assumes nothing.
-use Prim.Native.Nat.{ℕ}
+use Prim.Native.Nat.{ℕ, _≤_}
 use mathlib.Core.Bool.{Bool, _&&_, not, cond}
 use mathlib.Core.List.{List, [], _∷_}
 use lib.Dec.{eqb}
 use lib.ListN.{length}
 use Rattle.scope.specs.Lists.{at, below}
-use Rattle.scope.specs.Table.{Table}
+use Rattle.scope.specs.Table.{Table, rowCount}
 use Rattle.scope.specs.Memory.{Memory, memory, isUsed}
 use Rattle.scope.specs.Rules.{pointsBack, cellKept, linkUsed, reverseFree, freeKept}
+use Rattle.scope.proofs.Lengths.{Lengths}
 
 abbrev pub rows : List ℕ → List ℕ → Memory
 rows slotRow rowSlot = memory [] [] [] [] [] slotRow [] [] [] rowSlot []
@@ -37,3 +38,8 @@ usedAhead t m s = pointsBack t m s && cellKept t m s && aheadKept m s && reverse
 
 unfoldable pub slotAhead : Table → Memory → ℕ → Bool
 slotAhead t m s = cond (isUsed m s) (usedAhead t m s) (freeKept m s)
+
+-- What 10 and 1 have found before: the slices agree in length and the capacities are in their ranges, and so is the row count.
+pub record Lent (t : Table) (m : Memory) : Type 0 where
+  pub lengths : Lengths t m
+  pub most-rows : rowCount t ≤ 65536

@@ -1,5 +1,5 @@
-// The state's rules, refusal 9, on any bytes at all: a number that nothing has checked is read as 0 past the end of its
-// slice, as the rules have it.
+// The state's rules, refusal 9, on any numbers at all, in slices whose lengths are tested: a number that nothing has checked is read as 0
+// past the end of its slice, as the rules have it.
 ghost use mathlib.Core.Path.{_≡_};
 ghost use mathlib.Core.Bool.{cond, not};
 ghost use mathlib.Core.List.{[]};
@@ -12,7 +12,7 @@ ghost use Rattle.scope.specs.Table.{table};
 ghost use Rattle.scope.specs.CellLists.{listVerdict};
 ghost use Rattle.scope.specs.Memory.{memory};
 ghost use Rattle.scope.specs.Rules.{ownedBy, linkUsed, freeKept, clearedAt, isRoot, parentKept, ranksKept, rulesKept};
-ghost use Rattle.rules.specs.Slices.{links, forest, pool, setCount, aheadKept, usedAhead, slotAhead};
+ghost use Rattle.rules.specs.Slices.{links, forest, pool, setCount, aheadKept, usedAhead, slotAhead, Lent};
 use answers::is_accepted;
 use index::lies_under;
 use index::owner;
@@ -28,17 +28,18 @@ fn at64(s: &[u64], i: usize) -> u64
 }
 
 // One for a number that is not 0, else none.
-fn one_if_set(number: u32) -> usize
+fn one_if_set(number: u32) -> u32
     ensures { λ r. ⌜ (r ≡ cond (not (eqb number 0)) 1 0) × (r ≤ 1) ⌝ }
 {
     if number == 0 { 0 } else { 1 }
 }
 
-// How many numbers are not 0.
-fn set_count(numbers: &[u32]) -> usize
+// How many numbers are not 0. Counts of 32 bits are added four at a time.
+fn set_count(numbers: &[u32]) -> u32
+    requires { ⌜ length (now numbers) < 2 ^ 32 ⌝ }
     ensures { λ r. ⌜ r ≡ setCount (now (numbers .entry)) ⌝ }
 {
-    let mut count: usize = 0;
+    let mut count: u32 = 0;
     let mut i: usize = 0;
     while i < numbers.len() {
         count += one_if_set(numbers[i]);
@@ -81,7 +82,8 @@ fn free_kept(slot_cell: &[u32], prev: &[u32], next: &[u32], slot: usize) -> bool
 }
 
 // A used slot has its row in range, that row points back to it, its cell number is held and the row's owner is that cell
-// or lies under it, its link ahead is kept, and its row's reverse is not held.
+// or lies under it, its link ahead is kept, and its row's reverse is not held. What is out of its range ends the test at once, so that no number
+// after it has to be tested before it is looked up.
 fn used_kept(
     edges: &[u64],
     reverse: &[u32],
@@ -100,6 +102,9 @@ fn used_kept(
     let number = at32(slot_row, slot);
     let row = number - 1;
     let place = at32(slot_cell, slot);
+    if (edges.len() <= row) | (held <= place) | (slot_row.len() <= at32(next, slot)) {
+        return false;
+    }
     let back = at32(reverse, row);
     (number <= edges.len())
         & (at32(row_slot, row) == slot + 1)
@@ -140,6 +145,7 @@ fn slot_kept(
     )
 }
 
+// There is no early end, so that the next slot's numbers are on their way before this one's are there.
 fn slots_kept(
     edges: &[u64],
     reverse: &[u32],
@@ -153,25 +159,25 @@ fn slots_kept(
 ) -> bool
     ensures { λ b. ⌜ b ≡ passes (slotAhead (table (now (edges .entry)) (now (reverse .entry)) []) (pool held (now (cells .entry)) (now («slot_row» .entry)) (now («slot_cell» .entry)) (now (prev .entry)) (now (next .entry)) (now («row_slot» .entry)))) (length (now («slot_row» .entry))) ⌝ }
 {
+    let mut kept = true;
     let mut slot: usize = 0;
     while slot < slot_row.len() {
-        if !slot_kept(
-            edges,
-            reverse,
-            cells,
-            slot_row,
-            slot_cell,
-            prev,
-            next,
-            row_slot,
-            held,
-            slot,
-        ) {
-            return false;
-        }
+        kept = kept
+            & slot_kept(
+                edges,
+                reverse,
+                cells,
+                slot_row,
+                slot_cell,
+                prev,
+                next,
+                row_slot,
+                held,
+                slot,
+            );
         slot += 1;
     }
-    true
+    kept
 }
 
 // Marks are cleared.
@@ -240,7 +246,8 @@ fn cells_kept(cells: &[u64], mode: usize, target: usize, held: usize) -> bool
 }
 
 // The state breaks no rule: the table's three slices, and the state's eleven. Each used slot's row points back to it, so that a row's slot
-// number is none or a used slot that holds this row, for every row, where as many rows have a slot as slots are used.
+// number is none or a used slot that holds this row, for every row, where as many rows have a slot as slots are used. Slices are lent on
+// by one and the same length, which tells the compiler that they agree.
 pub fn rules_kept(
     edges: &[u64],
     reverse: &[u32],
@@ -257,6 +264,7 @@ pub fn rules_kept(
     row_slot: &[u32],
     row_mark: &[u32],
 ) -> bool
+    requires { ⌜ Lent (table (now edges) (now reverse) (now area)) (memory (now head) (now cells) (now parent) (now rank) (now «cell_mark») (now «slot_row») (now «slot_cell») (now prev) (now next) (now «row_slot») (now «row_mark»)) ⌝ }
     ensures { λ b. ⌜ b ≡ rulesKept (table (now (edges .entry)) (now (reverse .entry)) (now (area .entry))) (memory (now (head .entry)) (now (cells .entry)) (now (parent .entry)) (now (rank .entry)) (now («cell_mark» .entry)) (now («slot_row» .entry)) (now («slot_cell» .entry)) (now (prev .entry)) (now (next .entry)) (now («row_slot» .entry)) (now («row_mark» .entry))) ⌝ }
 {
     let mode = at32(head, 0);
@@ -266,17 +274,19 @@ pub fn rules_kept(
         return false;
     }
     let target = resolution(at64(edges, 0));
+    let rows = edges.len();
+    let slots = slot_row.len();
     cells_kept(cells, mode, target, held)
         & (set_count(row_slot) == set_count(slot_row))
         & slots_kept(
             edges,
-            reverse,
+            &reverse[..rows],
             cells,
             slot_row,
-            slot_cell,
-            prev,
-            next,
-            row_slot,
+            &slot_cell[..slots],
+            &prev[..slots],
+            &next[..slots],
+            &row_slot[..rows],
             held,
         )
         & (all_cleared(row_mark) & all_cleared(cell_mark))

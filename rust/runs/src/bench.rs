@@ -18,15 +18,27 @@ use crate::{
 };
 use std::{collections::BTreeSet, hint::black_box, time::Duration};
 
-pub fn run(folder: &Folder) -> Result<(), String> {
+/// All tables, or open and offer alone.
+pub fn run(folder: &Folder, checks_alone: bool) -> Result<(), String> {
     if !(oracle::AVAILABLE && subject::AVAILABLE) {
         return Err(
             "a benchmark needs the library (target/staticlib/libhost.a) and the Rust's texts when it is built".into()
         );
     }
     let big = Given::new("big_r9", folder.read("big_r9")?);
+    if checks_alone {
+        checks(&big);
+        return Ok(());
+    }
+    dissolves(&big);
+    checks(&big);
+    walks();
+    Ok(())
+}
+
+fn dissolves(big: &Given) {
     heading("Rust");
-    for (name, mode, cells) in lists(&big) {
+    for (name, mode, cells) in lists(big) {
         // The table of the cells' own edges and their reverses, and room for just these.
         let wanted = cells.iter().flat_map(|cell| big.table.outline(*cell)).flatten().collect::<BTreeSet<_>>();
         let table = part(&big.table, |row| wanted.contains(&row));
@@ -35,19 +47,24 @@ pub fn run(folder: &Folder) -> Result<(), String> {
             dissolve_bytes("the same on bytes", &table, mode, &cells);
         }
     }
-    for (name, mode, cells) in lists(&big) {
+    for (name, mode, cells) in lists(big) {
         dissolve(&format!("dissolve, {name}, {} rows", big.table.rows()), &big.table, mode, &cells, 65_536, 16_384);
     }
+}
+
+fn checks(big: &Given) {
     heading("plain read");
     open(&big.table);
-    offer(&big);
+    offer(big);
+}
+
+fn walks() {
     heading("Rust");
     for (name, cell) in [("hexagon", 0x0800_1fff_ffff_ffff), ("pentagon", 0x0800_9fff_ffff_ffff)] {
         for target in [0, 1, 7, 14] {
             walk(&format!("walk, {name} of resolution 0 to {target}"), cell, target);
         }
     }
-    Ok(())
 }
 
 /// An outline's edges, by exclusive or: the time of one edge, with its share of the walk's start.

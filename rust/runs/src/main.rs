@@ -36,7 +36,7 @@ runs [--seed N] [--rounds N] [--tables FOLDER] [SECTION...]
     --rounds N  as many random problems in each section (a minute's worth in all)
     --tables F  the folder of the real tables (shared/tables beside the repository, or the environment's ZONE_TABLES)
 runs list       writes the fixed list of the oracle's answers to standard output
-runs bench      times the calls beside the Rust's
+runs bench      times the calls beside the Rust's; `runs bench checks` open and offer alone
 runs --help     this
 ";
 
@@ -75,7 +75,8 @@ fn run(arguments: &Arguments) -> Result<(), String> {
             Ok(())
         }
         ["list"] => list::write(&arguments.folder),
-        ["bench"] => bench::run(&arguments.folder),
+        ["bench"] => bench::run(&arguments.folder, false),
+        ["bench", "checks"] => bench::run(&arguments.folder, true),
         ["rust-on", name] => sections::odd::answer_of_the_rust(name),
         names => compare(arguments, names),
     }

@@ -6,7 +6,7 @@ use Rattle.scope.specs.Memory.{memory}
 use mathlib.Core.Path.{_≡_, refl, sym, _∙_, ap}
 use Rattle.scope.proofs.Tests.{fails, holds}
 use Rattle.admission.proofs.Fitting.{lengths-are}
-use Rattle.admission.proofs.Refusals.{state-stops, state-rules}
+use Rattle.admission.proofs.Refusals.{rules-asks, state-stops, state-rules}
 use Rattle.admission.proofs.state_verdict.Statement.{statement}
 use Rattle.admission.proofs.state_verdict.Tie as tie
 
@@ -35,7 +35,7 @@ returns : tie.Need-returns
 returns c = let a = c .before .before .before .before .before .before .before .before .before .before .before .before .before .before .before .before .before .before .before .before .before .before .args in let t = table (a .edges .now) (a .reverse .now) (a .area .now) in let m = memory (a .head .now) (a .cells .now) (a .parent .now) (a .rank .now) (a .cell-mark .now) (a .slot-row .now) (a .slot-cell .now) (a .prev .now) (a .next .now) (a .row-slot .now) (a .row-mark .now) in let f = lengths-are t m (c .before .before .before .before .before .before .before .both-agree .ensures) (c .before .before .before .before .before .before .three-agree .ensures) (c .before .before .before .before .before .three-agree2 .ensures) (c .before .before .before .before .both-agree2 .ensures) (c .before .before .before .capacities-fit .ensures) in state-stops t m (a .agree) f (c .before .before .table-verdict .ensures) (fails (c .before .is-accepted .ensures) (c .if1 .taken))
 
 rules-kept-requires : tie.Need-rules-kept-requires
-rules-kept-requires c κs = search needs
+rules-kept-requires c κs = let a = c .before .before .before .before .before .before .before .before .before .before .before .before .before .before .before .before .before .before .before .before .before .before .args in let t = table (a .edges .now) (a .reverse .now) (a .area .now) in let m = memory (a .head .now) (a .cells .now) (a .parent .now) (a .rank .now) (a .cell-mark .now) (a .slot-row .now) (a .slot-cell .now) (a .prev .now) (a .next .now) (a .row-slot .now) (a .row-mark .now) in let f = lengths-are t m (c .before .before .before .before .before .before .before .both-agree .ensures) (c .before .before .before .before .before .before .three-agree .ensures) (c .before .before .before .before .before .three-agree2 .ensures) (c .before .before .before .before .both-agree2 .ensures) (c .before .before .before .capacities-fit .ensures) in rules-asks t m (a .agree) f (c .before .before .table-verdict .ensures) (holds (c .before .is-accepted .ensures) (c .if1 .left))
 
 returns-2 : tie.Need-returns-2
 returns-2 c = let a = c .before .before .before .before .before .before .before .before .before .before .before .before .before .before .before .before .before .before .before .before .before .before .before .before .args in let t = table (a .edges .now) (a .reverse .now) (a .area .now) in let m = memory (a .head .now) (a .cells .now) (a .parent .now) (a .rank .now) (a .cell-mark .now) (a .slot-row .now) (a .slot-cell .now) (a .prev .now) (a .next .now) (a .row-slot .now) (a .row-mark .now) in let f = lengths-are t m (c .before .before .before .before .before .before .before .before .before .both-agree .ensures) (c .before .before .before .before .before .before .before .before .three-agree .ensures) (c .before .before .before .before .before .before .before .three-agree2 .ensures) (c .before .before .before .before .before .before .both-agree2 .ensures) (c .before .before .before .before .before .capacities-fit .ensures) in state-rules t m (a .agree) f (c .before .before .before .before .table-verdict .ensures) (holds (c .before .before .before .is-accepted .ensures) (c .before .before .if1 .left)) (sym (c .if2 .taken) ∙ c .before .rules-kept .ensures)

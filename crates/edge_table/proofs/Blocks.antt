@@ -14,7 +14,7 @@ use Rattle.scope.specs.Lists.{at, passes}
 use Rattle.scope.specs.Cells.{resolutionOf, baseCell}
 use Rattle.scope.proofs.Tests.{and-both, le-or-lt}
 use Rattle.scope.proofs.Scan.{passes-all}
-use Rattle.edge_table.specs.Search.{RowsBelow}
+use Rattle.row_search.specs.Search.{RowsBelow}
 use Rattle.edge_table.specs.Straight.{fieldsKept}
 
 pub record Blocks (es : List ℕ) (target end block : ℕ) : Type 0 where

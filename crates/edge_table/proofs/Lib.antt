@@ -1,11 +1,8 @@
--- Laws that the proofs of this crate cite, and how many turns the search takes.
+-- Laws that the proofs of this crate cite.
 pub mod Floats
-pub mod Noting
 pub mod Gathered
 pub mod Halves
 pub mod Blocks
 pub mod Sides
 pub mod Columns
-pub mod Search
-pub mod Turns
 pub mod Outcomes

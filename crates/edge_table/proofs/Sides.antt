@@ -20,7 +20,7 @@ use Rattle.scope.proofs.Tests.{either, clash, and-left, and-right, and-both, an
 use Rattle.scope.proofs.Scan.{passes-at, passes-all}
 use Rattle.scope.proofs.Tables.{Ascending}
 use Rattle.index.proofs.Prefix.{pentagon-at-once}
-use Rattle.edge_table.specs.Search.{RowsBelow}
+use Rattle.row_search.specs.Search.{RowsBelow}
 use Rattle.edge_table.specs.Straight.{fieldsKept, sideKept, NoSide, SidesAsk}
 
 lower-zero : (a b d : ℕ) → 0 < d → a ≤ b → b / d ≡ 0 → a / d ≡ 0

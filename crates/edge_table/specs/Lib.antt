@@ -1,6 +1,3 @@
 -- What the contracts and the theorems of this crate cite beside `scope`.
 pub mod Checks
-pub mod Notes
-pub mod Search
 pub mod Straight
-pub mod Turns

@@ -1,10 +1,8 @@
-// The edge table in lent memory: three slices, edge numbers, reverse rows and area terms. Its check, and the search for an edge's row, by halving.
-pub mod notes;
+// The edge table in lent memory: three slices, edge numbers, reverse rows and area terms. Its check.
 mod straight;
 
 use index::is_edge;
 use index::resolution;
-use scope::Found;
 use scope::Verdict;
 use slices::at32;
 use straight::none_bad;
@@ -13,9 +11,8 @@ ghost use mathlib.Core.Bool.{true};
 ghost use Prim.Native.Nat.{_<_, _≤_};
 ghost use lib.ListN.{length};
 ghost use Rattle.scope.specs.Lists.{firstBad, passes};
-ghost use Rattle.scope.specs.Table.{table, isFinite, hasTarget, ascends, paired, rowGood, findRow};
+ghost use Rattle.scope.specs.Table.{table, isFinite, hasTarget, ascends, paired, rowGood};
 ghost use Rattle.edge_table.specs.Checks.{checked};
-ghost use Rattle.edge_table.specs.Search.{RowsBelow};
 
 // Neither an infinity nor a NaN: x − x is a NaN for these alone, and a NaN is not equal to itself.
 fn is_finite(x: f64) -> bool
@@ -105,39 +102,4 @@ pub fn check_table(edges: &[u64], reverse: &[u32], area: &[f64]) -> Verdict
         return Verdict::Refused(1, bad);
     }
     Verdict::Accepted
-}
-
-// How many rows have an edge below the bound, by halving: at most 17 turns in a table of 65,536 rows.
-pub(crate) fn rows_below(edges: &[u64], bound: u64) -> usize
-    requires { ⌜ passes (ascends (now edges)) (length (now edges)) ≡ true ⌝ }
-    ensures { λ r. ⌜ RowsBelow (now (edges .entry)) bound r ⌝ }
-{
-    let mut low: usize = 0;
-    let mut left = edges.len();
-    while 0 < left {
-        let half = left >> 1;
-        let middle = low + half;
-        if edges[middle] < bound {
-            low = middle + 1;
-            left -= half + 1;
-        } else {
-            left = half;
-        }
-    }
-    low
-}
-
-// The row of an edge.
-pub fn find_row(edges: &[u64], edge: u64) -> Found
-    requires { ⌜ passes (ascends (now edges)) (length (now edges)) ≡ true ⌝ }
-    ensures { λ r. ⌜ r ≡ findRow (now (edges .entry)) edge ⌝ }
-{
-    let low = rows_below(edges, edge);
-    if edges.len() <= low {
-        return Found::Absent;
-    }
-    if edges[low] == edge {
-        return Found::At(low);
-    }
-    Found::Absent
 }

@@ -2,9 +2,9 @@
 // rows at a time; which row is the lowest bad one is asked only where a pass fails.
 use crate::is_finite;
 use crate::row_paired;
-use crate::rows_below;
 use index::is_pentagon;
 use index::resolution;
+use row_search::rows_below;
 use slices::at32;
 use slices::get32;
 ghost use mathlib.Core.Path.{_≡_};

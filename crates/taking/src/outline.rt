@@ -1,8 +1,8 @@
 // A cell's outline as rows of the table, in one walk with one search for each edge, most of them ended by a note: refusals 5 and 6 come from it.
 // The rows' marks tell a row that is named twice, and are clear again at the end.
-use edge_table::notes::find_noted;
 use gosper::Gosper;
 use index::resolution;
+use row_search::notes::find_noted;
 use scope::Found;
 use slices::get32;
 use slices::put32;

@@ -1,5 +1,5 @@
 // Scratch on the stack of a call: room for the rows of an outline, and notes of where the table's rows stand.
-use edge_table::notes::note_rows;
+use row_search::notes::note_rows;
 ghost use mathlib.Core.Path.{_≡_};
 ghost use Prim.Native.Nat.{_*_, _≤_, _^_};
 ghost use lib.ListN.{length};

@@ -6,7 +6,7 @@ use Prim.Native.Nat.{ℕ, _-_, _*_, _^_}
 use mathlib.Core.Path.{refl, subst}
 use borrow.Author.Tests.{eqb-true}
 use Rattle.scope.proofs.Tests.{clash}
-use Rattle.edge_table.specs.Search.{RowsBelow}
+use Rattle.row_search.specs.Search.{RowsBelow}
 use Rattle.edge_table.proofs.Blocks.{Blocks, blocks-start, blocks-more, blocks-done}
 use Rattle.edge_table.proofs.straight.fields_kept.Statement.{statement}
 use Rattle.edge_table.proofs.straight.fields_kept.Tie as tie

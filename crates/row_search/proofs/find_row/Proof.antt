@@ -1,11 +1,11 @@
--- `edge_table::find_row` meets its contract. Where the rows below the edge end, it stands or is absent.
+-- `row_search::find_row` meets its contract. Where the rows below the edge end, it stands or is absent.
 -- Assumes nothing.
 use native.Mathlib.Omega.{arith}
 use borrow.Author.Needs.{needs}
 use Rattle.scope.proofs.Tables.{ascending}
-use Rattle.edge_table.proofs.Search.{met-at, met-past, met-absent}
-use Rattle.edge_table.proofs.find_row.Statement.{statement}
-use Rattle.edge_table.proofs.find_row.Tie as tie
+use Rattle.row_search.proofs.Search.{met-at, met-past, met-absent}
+use Rattle.row_search.proofs.find_row.Statement.{statement}
+use Rattle.row_search.proofs.find_row.Tie as tie
 
 rows-below-requires : tie.Need-rows-below-requires
 rows-below-requires c κs = search needs

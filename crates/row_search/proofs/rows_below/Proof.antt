@@ -1,14 +1,14 @@
--- `edge_table::rows_below` meets its contract. The rows left close on the place where the bound would stand. The measure is how often
+-- `row_search::rows_below` meets its contract. The rows left close on the place where the bound would stand. The measure is how often
 -- they can still be halved: each turn of the loop is a `Turn`, of which at most 17 can be made among 65,536 rows (Turns).
 -- Assumes nothing.
 use native.Mathlib.Omega.{arith}
 use borrow.Author.Needs.{needs}
 use Rattle.scope.proofs.Tables.{ascending}
-use Rattle.edge_table.specs.Turns.{halvings}
-use Rattle.edge_table.proofs.Search.{Halving, halving-start, halving-up, halving-down, halving-met}
-use Rattle.edge_table.proofs.Turns.{turn-less}
-use Rattle.edge_table.proofs.rows_below.Statement.{statement}
-use Rattle.edge_table.proofs.rows_below.Tie as tie
+use Rattle.row_search.specs.Turns.{halvings}
+use Rattle.row_search.proofs.Search.{Halving, halving-start, halving-up, halving-down, halving-met}
+use Rattle.row_search.proofs.Turns.{turn-less}
+use Rattle.row_search.proofs.rows_below.Statement.{statement}
+use Rattle.row_search.proofs.rows_below.Tie as tie
 
 abbrev Inv-loop : tie.InvT-loop
 Inv-loop edges bound low₀ left₀ low left = Halving edges bound low left

@@ -10,7 +10,7 @@ use native.Mathlib.Nat.{mul-comm, mul-le-mul, mul-lt-mul-of-pos-right, div-lt-if
 use native.Mathlib.Omega.{arith}
 use lib.ListN.{length, set, length-set}
 use Rattle.scope.specs.Lists.{at}
-use Rattle.edge_table.specs.Notes.{notePlace, noted}
+use Rattle.row_search.specs.Notes.{notePlace, noted}
 
 pub product-fits : (x n : ℕ) → x < 2 ^ 32 → n ≤ 2 ^ 32 → x * n < 2 ^ 64
 product-fits x n h k =

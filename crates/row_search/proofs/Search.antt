@@ -17,7 +17,7 @@ use Rattle.scope.specs.Table.{findRow}
 use Rattle.scope.proofs.Tests.{le-or-lt}
 use Rattle.scope.proofs.Tables.{Ascending}
 use Rattle.scope.proofs.RowSearch.{row-is, row-none, found-at, found-absent}
-use Rattle.edge_table.specs.Search.{RowsBelow}
+use Rattle.row_search.specs.Search.{RowsBelow}
 
 pub record Halving (es : List ℕ) (e low left : ℕ) : Type 0 where
   pub within : low + left ≤ length es

@@ -1,11 +1,11 @@
--- `edge_table::notes::note_place` meets its contract. The place is below the number of notes.
+-- `row_search::notes::note_place` meets its contract. The place is below the number of notes.
 -- Assumes nothing.
 use native.Mathlib.Omega.{arith}
 use borrow.Author.Needs.{needs}
-use Rattle.edge_table.specs.Notes.{notePlace}
-use Rattle.edge_table.proofs.Noting.{product-fits, place-in}
-use Rattle.edge_table.proofs.notes.note_place.Statement.{statement}
-use Rattle.edge_table.proofs.notes.note_place.Tie as tie
+use Rattle.row_search.specs.Notes.{notePlace}
+use Rattle.row_search.proofs.Noting.{product-fits, place-in}
+use Rattle.row_search.proofs.notes.note_place.Statement.{statement}
+use Rattle.row_search.proofs.notes.note_place.Tie as tie
 
 spread-requires : tie.Need-spread-requires
 spread-requires c κs = search needs

@@ -11,7 +11,7 @@ ghost use Prim.Native.Nat.{_<_, _≤_, _^_};
 ghost use lib.ListN.{length};
 ghost use Rattle.scope.specs.Lists.{passes};
 ghost use Rattle.scope.specs.Table.{ascends, findRow};
-ghost use Rattle.edge_table.specs.Notes.{spreadOf, notePlace, noted};
+ghost use Rattle.row_search.specs.Notes.{spreadOf, notePlace, noted};
 
 // The last digits and the edge number, spread over 32 bits: a multiplication drives edges that stand near each other apart.
 fn spread(edge: u64) -> u64

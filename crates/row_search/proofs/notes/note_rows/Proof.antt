@@ -1,12 +1,12 @@
--- `edge_table::notes::note_rows` meets its contract. The invariant is `Noting`.
+-- `row_search::notes::note_rows` meets its contract. The invariant is `Noting`.
 -- Assumes nothing.
 use native.Mathlib.Omega.{arith}
 use borrow.Author.Needs.{needs}
 use Prim.Native.Nat.{_-_, _<_}
 use lib.ListN.{length}
-use Rattle.edge_table.proofs.Noting.{Noting, noting-start, noting-more, noting-done}
-use Rattle.edge_table.proofs.notes.note_rows.Statement.{statement}
-use Rattle.edge_table.proofs.notes.note_rows.Tie as tie
+use Rattle.row_search.proofs.Noting.{Noting, noting-start, noting-more, noting-done}
+use Rattle.row_search.proofs.notes.note_rows.Statement.{statement}
+use Rattle.row_search.proofs.notes.note_rows.Tie as tie
 
 abbrev Inv-loop : tie.InvT-loop
 Inv-loop edges notes₀ row₀ notes row = Noting edges notes₀ notes row

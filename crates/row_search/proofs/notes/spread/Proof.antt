@@ -1,10 +1,10 @@
--- `edge_table::notes::spread` meets its contract. The same operations, and a remainder.
+-- `row_search::notes::spread` meets its contract. The same operations, and a remainder.
 -- Assumes nothing.
 use native.Mathlib.Omega.{arith}
 use borrow.Author.Needs.{needs}
-use Rattle.edge_table.specs.Notes.{spreadOf}
-use Rattle.edge_table.proofs.notes.spread.Statement.{statement}
-use Rattle.edge_table.proofs.notes.spread.Tie as tie
+use Rattle.row_search.specs.Notes.{spreadOf}
+use Rattle.row_search.proofs.notes.spread.Statement.{statement}
+use Rattle.row_search.proofs.notes.spread.Tie as tie
 
 resolution-requires : tie.Need-resolution-requires
 resolution-requires c κs = search needs

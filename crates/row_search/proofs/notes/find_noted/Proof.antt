@@ -1,10 +1,10 @@
--- `edge_table::notes::find_noted` meets its contract. A row that holds the edge is its row; else the search decides.
+-- `row_search::notes::find_noted` meets its contract. A row that holds the edge is its row; else the search decides.
 -- Assumes nothing.
 use borrow.Author.Needs.{needs}
 use Rattle.scope.proofs.Tables.{ascending}
 use Rattle.scope.proofs.RowSearch.{row-is, found-at}
-use Rattle.edge_table.proofs.notes.find_noted.Statement.{statement}
-use Rattle.edge_table.proofs.notes.find_noted.Tie as tie
+use Rattle.row_search.proofs.notes.find_noted.Statement.{statement}
+use Rattle.row_search.proofs.notes.find_noted.Tie as tie
 
 note-of-requires : tie.Need-note-of-requires
 note-of-requires c κs = search needs

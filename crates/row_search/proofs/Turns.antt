@@ -15,7 +15,7 @@ use borrow.Author.Tests.{lt-leb, leb-false}
 use Rattle.scope.specs.Lists.{firstBad}
 use Rattle.scope.proofs.Tests.{clash, le-or-lt}
 use Rattle.scope.proofs.Scan.{firstBad-lowest}
-use Rattle.edge_table.specs.Turns.{Turn, Turns, halvings}
+use Rattle.row_search.specs.Turns.{Turn, Turns, halvings}
 
 halvings-below : (n k : ℕ) → k < 65 → n < 2 ^ k → halvings n ≤ k
 unfolding halvings

@@ -76,8 +76,10 @@ pub mod Orders
 pub mod Sorting
 pub mod Sorted
 pub mod Perms
+pub mod Ascending
 pub mod RingOrder
 pub mod Polygons
+pub mod PolygonByPolygon
 pub mod ReadRoom
 -- Demand 3: what a run of calls leaves is what the accepted cells give afresh
 pub mod States

@@ -1,12 +1,17 @@
 -- Lists with the same elements in some order (`Perm`, Sorted): what they share.
 --     perm-sym, perm-map       the other way round; under a map
 --     perm-in, perm-fresh      the same members; no member twice
+--     perm-keep                as many are kept of both
 --     fresh-append             two lists with no member twice and none in common, one after the other
 -- Assumes nothing.
-use Prim.Native.Nat.{ℕ}
-use mathlib.Core.Path.{_≡_, refl, sym}
-use mathlib.Core.Logic.{_⊎_, inl, inr}
+use Prim.Native.Nat.{ℕ, suc}
+use mathlib.Core.Path.{_≡_, refl, sym, _∙_, ap}
+use mathlib.Core.Logic.{_⊎_, inl, inr, ⊎-elim}
+use mathlib.Core.Bool.{Bool, true, false, cond}
 use mathlib.Core.List.{List, [], _∷_, _++_, map, List·Memᴰ, List·Memᴰ·head, List·Memᴰ·tail, List·Memᴰ·cases-cons, List·Memᴰ·append-cases}
+use lib.ListN.{length}
+use Rattle.scope.specs.Lists.{keep}
+use Rattle.scope.proofs.Tests.{either}
 use Rattle.scope.proofs.Members.{Fresh}
 use Rattle.scope.proofs.Sorted.{Perm, none, skip, swap, both}
 
@@ -57,3 +62,19 @@ fresh-append (x ∷ l) k f g d = (λ i. go (List·Memᴰ·append-cases l i), fre
     go : List·Memᴰ x l ⊎ List·Memᴰ x k → ⊥
     go (inl i) = f .0 i
     go (inr i) = d x (List·Memᴰ·head refl) i
+
+pub perm-keep : (ok : ℕ → Bool) {l k : List ℕ} → Perm l k → length (keep ok l) ≡ length (keep ok k)
+unfolding keep
+perm-keep ok none = refl
+perm-keep ok (skip {x = x} p) = ⊎-elim (λ (e : ok x ≡ true). rw e (ap suc (perm-keep ok p))) (λ (e : ok x ≡ false). rw e (perm-keep ok p)) (either (ok x))
+perm-keep ok (swap {x = x} {y = y} {l = l}) = go (ok x) (ok y)
+  where
+    k : List ℕ
+    k = keep ok l
+
+    go : (a b : Bool) → length (cond a (x ∷ cond b (y ∷ k) k) (cond b (y ∷ k) k)) ≡ length (cond b (y ∷ cond a (x ∷ k) k) (cond a (x ∷ k) k))
+    go true true = refl
+    go true false = refl
+    go false true = refl
+    go false false = refl
+perm-keep ok (both p q) = perm-keep ok p ∙ perm-keep ok q

@@ -30,7 +30,7 @@ use Rattle.scope.proofs.Sorting.{All, all-sort, sort-length}
 -- ---- what is kept of a list
 
 module _ (ok : ℕ → Bool) where
-  keep-mem : (l : List ℕ) {a : ℕ} → List·Memᴰ a l → ok a ≡ true → List·Memᴰ a (keep ok l)
+  pub keep-mem : (l : List ℕ) {a : ℕ} → List·Memᴰ a l → ok a ≡ true → List·Memᴰ a (keep ok l)
   unfolding keep
   keep-mem [] i t = i
   keep-mem (x ∷ l) {a} i t = ⊎-elim

@@ -43,7 +43,7 @@ module _ (t : Table) where
   all-places m [] e = rw (all-none t m)
   all-places m (x ∷ xs) e = let q = all-accept t m x xs e in rw (q .2) (all-places (taking t m x) xs (q .1) ∙ taken-room (offered t m x (q .0)))
 
-opened-mode : (m : Memory) (mode : ℕ) → keptMode (opened mode m) ≡ kept mode
+pub opened-mode : (m : Memory) (mode : ℕ) → keptMode (opened mode m) ≡ kept mode
 unfolding opened
 opened-mode m mode = refl
 

@@ -98,6 +98,8 @@ pub mod ViewsAlike
 pub mod WhateverOrder
 pub mod Dissolving
 pub mod DissolveRuns
+pub mod Refused
+pub mod EightFirst
 pub mod Begun
 pub mod ShownAfresh
 pub mod Counts

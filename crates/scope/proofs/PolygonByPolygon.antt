@@ -26,7 +26,7 @@ use Rattle.scope.proofs.Orders.{Decides, decides-thenBy, decides-leb, o
 use Rattle.scope.proofs.Sorted.{sort-perm, sort-ascends}
 use Rattle.scope.proofs.Perms.{perm-sym, perm-in, perm-fresh, perm-keep}
 use Rattle.scope.proofs.Ascending.{ascends-at, first-least}
-use Rattle.scope.proofs.RingOrder.{order-within, decides-within, order-polygons, order-rings, decides-rings, ordered-all, ordered-ascends}
+use Rattle.scope.proofs.RingOrder.{order-within, order-polygons, order-rings, decides-rings, ordered-all, ordered-ascends}
 use Rattle.scope.proofs.Polygons.{keep-mem, outer-ring, outer-same}
 
 module _ (v : View) where

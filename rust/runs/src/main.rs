@@ -1,12 +1,15 @@
 //! The runs: the library under test against document 01's rules (`rules`) and against the Rust (`oracle`).
 mod bench;
 mod clock;
+mod full_size;
 mod list;
 mod oracle_answer;
 mod problem;
 mod random;
 mod report;
 mod rules;
+#[cfg(h3o)]
+mod said;
 mod sections;
 mod shrink;
 mod subject;
@@ -36,7 +39,12 @@ runs [--seed N] [--rounds N] [--tables FOLDER] [SECTION...]
     --rounds N  as many random problems in each section (a minute's worth in all)
     --tables F  the folder of the real tables (shared/tables beside the repository, or the environment's ZONE_TABLES)
 runs list       writes the fixed list of the oracle's answers to standard output
+runs odd-search looks through every table of one cell and of two for the smallest on which the Rust's answer is not the defined one
 runs bench      times the calls beside the Rust's; `runs bench checks` open and offer alone
+runs full-size FOLDER
+                writes the files of tests/full_size.sh
+runs said TOOL TABLE LIST
+                what a tool (outline, outline-mixed, till_import, year_audit) has to say of a list, by the rules and the Rust
 runs --help     this
 ";
 
@@ -77,9 +85,22 @@ fn run(arguments: &Arguments) -> Result<(), String> {
         ["list"] => list::write(&arguments.folder),
         ["bench"] => bench::run(&arguments.folder, false),
         ["bench", "checks"] => bench::run(&arguments.folder, true),
+        ["full-size", to] => full_size::write(&arguments.folder, to),
+        ["said", tool, table, list] => said(tool, table, list),
+        ["odd-search"] => sections::odd::search(),
         ["rust-on", name] => sections::odd::answer_of_the_rust(name),
         names => compare(arguments, names),
     }
+}
+
+#[cfg(h3o)]
+fn said(tool: &str, table: &str, list: &str) -> Result<(), String> {
+    said::run(tool, table, list)
+}
+
+#[cfg(not(h3o))]
+fn said(_: &str, _: &str, _: &str) -> Result<(), String> {
+    Err("the Rust's texts were not there when this was built".into())
 }
 
 fn compare(arguments: &Arguments, names: &[&str]) -> Result<(), String> {
@@ -106,9 +127,9 @@ fn compare(arguments: &Arguments, names: &[&str]) -> Result<(), String> {
 
 /// Says in a line what is missing, which is an error where CI is set. Without the tables only the fixed list is replayed.
 fn all_is_there(tables: &Folder) -> Result<bool, String> {
-    let library = "the library (target/staticlib/libhost.a) was not there when this was built: the rules are compared with the Rust alone";
-    let texts = "the Rust's texts were not there when this was built: the library is compared with the rules alone";
-    let folder = format!("no real tables in {}: only the fixed list is replayed", tables.0.display());
+    let library = "the library was left out, since target/staticlib/libhost.a was not there when this was built";
+    let texts = "the Rust was left out, since its texts were not there when this was built";
+    let folder = format!("all but the fixed list was left out: no real tables in {}", tables.0.display());
     let parts = [(subject::AVAILABLE, library), (oracle::AVAILABLE, texts), (tables.is_there(), folder.as_str())];
     for (_, missing) in parts.iter().filter(|(there, _)| !there) {
         if env::var_os("CI").is_some() {

@@ -52,7 +52,7 @@ fn kept(mode: u64) -> Verdict<Kept> {
 }
 
 fn decode_table(bytes: &[u8]) -> Verdict<Table> {
-    if bytes.len() % ROW != 0 || bytes.len() / ROW > MOST_ROWS {
+    if !bytes.len().is_multiple_of(ROW) || bytes.len() / ROW > MOST_ROWS {
         return refuse(10, 0);
     }
     Ok(table_of(bytes))
@@ -79,7 +79,7 @@ pub fn table_bytes(table: &Table) -> Vec<u8> {
 }
 
 fn decode_cells(bytes: &[u8]) -> Verdict<Vec<u64>> {
-    if bytes.len() % 8 != 0 || bytes.len() / 8 > MOST_CELLS {
+    if !bytes.len().is_multiple_of(8) || bytes.len() / 8 > MOST_CELLS {
         return refuse(10, 0);
     }
     Ok(cells_of(bytes))

@@ -57,7 +57,7 @@ mod beside {
         fn check(&self, name: &str, list: &[u64]) -> Result<(), String> {
             let fits = self.ours.free_slots().count() + self.standing == self.ours.slots();
             let same_parents = self.lost() > 0 || self.our_parents() == self.rust.parents;
-            if fits && self.lost() % 2 == 0 && self.same_groups() && self.same_ranks() && same_parents {
+            if fits && self.lost().is_multiple_of(2) && self.same_groups() && self.same_ranks() && same_parents {
                 return Ok(());
             }
             Err(format!("pool: slots, groups, ranks or parents do not fit: {name}, {list:016x?}"))

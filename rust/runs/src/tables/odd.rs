@@ -21,13 +21,13 @@ fn edges_of(cell: u64) -> impl Iterator<Item = u64> {
     (lowest..=6).map(move |number| edge(cell, number))
 }
 
-/// The cell of a name's letter: A, B, C are base cells 0, 1, 2; P and Q are the base cells 4 and 14, pentagons; X, Y, Z are base cells 17,
-/// 18, 19.
+/// The cell of a name's letter: P and Q are the base cells 4 and 14, pentagons; X and Y are base cells 17 and 18; A is base cell 0, B is 1, and
+/// so on to H, which is 7.
 pub fn cell_of(letter: char) -> u64 {
     base_cell(match letter {
         'P' => 4,
         'Q' => 14,
-        'X'..='Z' => 17 + letter as u64 - 'X' as u64,
+        'X' | 'Y' => 17 + letter as u64 - 'X' as u64,
         _ => letter as u64 - 'A' as u64,
     })
 }

@@ -2,7 +2,7 @@
 mod exports;
 
 use crate::{EdgeTable, Refusal};
-use exports::{zo_dissolve, zo_offer, zo_open, zo_read_out};
+use exports::{call, zo_dissolve, zo_offer, zo_open, zo_read_out};
 
 /// The memory of a standing state. Cleared, with mode 0, it is newly opened.
 #[derive(Debug, Clone)]
@@ -57,84 +57,16 @@ impl Outputs {
     }
 }
 
-// Of every call below. SAFETY: each pointer comes with the length of the vector that it is taken from. What the library writes is borrowed
-// for it alone, and no two of the slices overlap. The library is proved to read and write within the lengths, for any contents.
-
 pub fn open(table: &EdgeTable, memory: &mut Memory, mode: usize) -> Result<(), Refusal> {
-    let Memory { head, cells, parent, rank, cell_mark, slot_row, slot_cell, prev, next, row_slot, row_mark } = memory;
-    // SAFETY: as above.
-    Refusal::check(unsafe {
-        zo_open(
-            table.edges().into(),
-            table.reverse().into(),
-            table.area().into(),
-            head.as_mut_slice().into(),
-            cells.as_mut_slice().into(),
-            parent.as_mut_slice().into(),
-            rank.as_mut_slice().into(),
-            cell_mark.as_mut_slice().into(),
-            slot_row.as_mut_slice().into(),
-            slot_cell.as_mut_slice().into(),
-            prev.as_mut_slice().into(),
-            next.as_mut_slice().into(),
-            row_slot.as_mut_slice().into(),
-            row_mark.as_mut_slice().into(),
-            mode,
-        )
-    })
+    Refusal::check(call!(zo_open, table, memory, mode))
 }
 
 pub fn offer(table: &EdgeTable, memory: &mut Memory, cell: u64) -> Result<(), Refusal> {
-    let Memory { head, cells, parent, rank, cell_mark, slot_row, slot_cell, prev, next, row_slot, row_mark } = memory;
-    // SAFETY: as above.
-    Refusal::check(unsafe {
-        zo_offer(
-            table.edges().into(),
-            table.reverse().into(),
-            table.area().into(),
-            head.as_mut_slice().into(),
-            cells.as_mut_slice().into(),
-            parent.as_mut_slice().into(),
-            rank.as_mut_slice().into(),
-            cell_mark.as_mut_slice().into(),
-            slot_row.as_mut_slice().into(),
-            slot_cell.as_mut_slice().into(),
-            prev.as_mut_slice().into(),
-            next.as_mut_slice().into(),
-            row_slot.as_mut_slice().into(),
-            row_mark.as_mut_slice().into(),
-            cell,
-        )
-    })
+    Refusal::check(call!(zo_offer, table, memory, cell))
 }
 
 pub fn read_out(table: &EdgeTable, memory: &mut Memory, out: &mut Outputs) -> Result<(), Refusal> {
-    let Memory { head, cells, parent, rank, cell_mark, slot_row, slot_cell, prev, next, row_slot, row_mark } = memory;
-    // SAFETY: as above.
-    Refusal::check(unsafe {
-        zo_read_out(
-            table.edges().into(),
-            table.reverse().into(),
-            table.area().into(),
-            head.as_slice().into(),
-            cells.as_slice().into(),
-            parent.as_slice().into(),
-            rank.as_slice().into(),
-            cell_mark.as_mut_slice().into(),
-            slot_row.as_slice().into(),
-            slot_cell.as_slice().into(),
-            prev.as_slice().into(),
-            next.as_slice().into(),
-            row_slot.as_slice().into(),
-            row_mark.as_mut_slice().into(),
-            out.start.as_mut_slice().into(),
-            out.size.as_mut_slice().into(),
-            out.group.as_mut_slice().into(),
-            out.area.as_mut_slice().into(),
-            out.edges.as_mut_slice().into(),
-            out.summary.as_mut_slice().into(),
-        )
-    })
+    Refusal::check(call!(zo_read_out, table, memory => out))
 }
 
 pub fn dissolve(
@@ -144,32 +76,5 @@ pub fn dissolve(
     out: &mut Outputs,
     mode: usize,
 ) -> Result<(), Refusal> {
-    let Memory { head, cells, parent, rank, cell_mark, slot_row, slot_cell, prev, next, row_slot, row_mark } = memory;
-    // SAFETY: as above.
-    Refusal::check(unsafe {
-        zo_dissolve(
-            table.edges().into(),
-            table.reverse().into(),
-            table.area().into(),
-            head.as_mut_slice().into(),
-            cells.as_mut_slice().into(),
-            parent.as_mut_slice().into(),
-            rank.as_mut_slice().into(),
-            cell_mark.as_mut_slice().into(),
-            slot_row.as_mut_slice().into(),
-            slot_cell.as_mut_slice().into(),
-            prev.as_mut_slice().into(),
-            next.as_mut_slice().into(),
-            row_slot.as_mut_slice().into(),
-            row_mark.as_mut_slice().into(),
-            list.into(),
-            out.start.as_mut_slice().into(),
-            out.size.as_mut_slice().into(),
-            out.group.as_mut_slice().into(),
-            out.area.as_mut_slice().into(),
-            out.edges.as_mut_slice().into(),
-            out.summary.as_mut_slice().into(),
-            mode,
-        )
-    })
+    Refusal::check(call!(zo_dissolve, table, memory, list.into() => out, mode))
 }

@@ -7,9 +7,9 @@
 /// refuses a bad one by [`Refusal::BadTable`](crate::Refusal::BadTable).
 #[derive(Debug, Clone, PartialEq)]
 pub struct EdgeTable {
-    edges: Vec<u64>,
-    reverse: Vec<u32>,
-    area: Vec<f64>,
+    pub(crate) edges: Vec<u64>,
+    pub(crate) reverse: Vec<u32>,
+    pub(crate) area: Vec<f64>,
 }
 
 impl EdgeTable {

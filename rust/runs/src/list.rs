@@ -15,9 +15,9 @@
 //! refusal's index, and the number that a group is written as. `runs list > crates/replay/data/answers.list` has made the file, and makes the
 //! same one again. The program `replay` puts it to the proved code with no Rust at hand, and the runs replay it first of all.
 use crate::{
-    problem::{AGAINST_THE_RUST, Counts, Problem, run},
+    problem::{AGAINST_THE_RUST, Counts, FILL, Problem, run},
     random::Random,
-    rules::bytes::{self, HEAD, cell_bytes, table_bytes},
+    rules::bytes::{self, HEAD, MOST_PLACES as PLACES, MOST_SLOTS as SLOTS, cell_bytes, table_bytes},
     sections::{dissolve_call, fault, good_list},
     subject,
     tables::{
@@ -30,10 +30,6 @@ use std::{fs, io::Write as _};
 
 const SEED: u64 = 11;
 const RECORD: usize = 32;
-/// What fills an output before a call.
-const FILL: u8 = 0xA5;
-const SLOTS: u32 = 1024;
-const PLACES: u32 = 256;
 
 pub fn write(folder: &Folder) -> Result<(), String> {
     if !oracle::AVAILABLE {

@@ -1,5 +1,8 @@
 //! The runs: the library under test against document 01's rules (`rules`) and against the Rust (`oracle`).
+#![deny(unsafe_code)]
+
 mod bench;
+#[allow(unsafe_code)]
 mod clock;
 mod full_size;
 mod list;
@@ -12,6 +15,7 @@ mod rules;
 mod said;
 mod sections;
 mod shrink;
+#[allow(unsafe_code)]
 mod subject;
 mod tables;
 
@@ -36,7 +40,7 @@ runs [--seed N] [--rounds N] [--tables FOLDER] [SECTION...]
       pool      the Rust's private slots and parents beside the rules'
       full      the calls at full size, on larger tables
     --seed N    another start of the random numbers (1)
-    --rounds N  as many random problems in each section (a minute's worth in all)
+    --rounds N  as many random problems in each section (else some twenty seconds' worth in all)
     --tables F  the folder of the real tables (shared/tables beside the repository, or the environment's ZONE_TABLES)
 runs list       writes the fixed list of the oracle's answers to standard output
 runs odd-search looks through every table of one cell and of two for the smallest on which the Rust's answer is not the defined one
@@ -88,6 +92,7 @@ fn run(arguments: &Arguments) -> Result<(), String> {
         ["full-size", to] => full_size::write(&arguments.folder, to),
         ["said", tool, table, list] => said(tool, table, list),
         ["odd-search"] => sections::odd::search(),
+        // Asked by section `odd`, in a process of its own.
         ["rust-on", name] => sections::odd::answer_of_the_rust(name),
         names => compare(arguments, names),
     }

@@ -14,7 +14,10 @@ pub type Defined = Result<ReadOut, u32>;
 #[cfg(h3o)]
 mod asked {
     use super::{Compared, Defined, Kept, ReadOut, Table};
-    use crate::rules::cells::{lies_under, resolution};
+    use crate::rules::{
+        cells::{lies_under, resolution},
+        rings::Ring,
+    };
     use oracle::{
         Resolution,
         dissolve::{self, Answer, Mode},
@@ -65,25 +68,19 @@ mod asked {
             (Answer::Refused(DissolutionError::UnsupportedResolution), Err(4)) => true,
             (Answer::Nothing, Ok(ReadOut::Nothing)) | (Answer::Closed, Ok(ReadOut::Closed)) => true,
             (Answer::Outline(theirs), Ok(ReadOut::Outline(ours))) => {
-                theirs.len() == ours.len()
-                    && theirs.iter().zip(ours).all(|(theirs, ours)| {
-                        theirs.len() == ours.len()
-                            && theirs
-                                .iter()
-                                .zip(ours)
-                                .all(|(a, b)| same_area(a.area, b.area) && same_rows(&a.rows, &b.rows))
-                    })
+                same_lists(theirs, ours, |theirs, ours| same_lists(theirs, ours, same_ring))
             }
             _ => false,
         }
     }
 
-    fn same_area(a: f64, b: f64) -> bool {
-        a.to_bits() == b.to_bits() || a.is_nan() && b.is_nan()
+    fn same_ring(theirs: &oracle::dissolve::Ring, ours: &Ring) -> bool {
+        let same_area = theirs.area.to_bits() == ours.area.to_bits() || theirs.area.is_nan() && ours.area.is_nan();
+        same_area && same_lists(&theirs.rows, &ours.rows, |a, b| *a as usize == *b)
     }
 
-    fn same_rows(theirs: &[u32], ours: &[usize]) -> bool {
-        theirs.len() == ours.len() && theirs.iter().zip(ours).all(|(a, b)| *a as usize == *b)
+    fn same_lists<A, B>(theirs: &[A], ours: &[B], same: impl Fn(&A, &B) -> bool) -> bool {
+        theirs.len() == ours.len() && theirs.iter().zip(ours).all(|(a, b)| same(a, b))
     }
 }
 

@@ -16,7 +16,7 @@ use crate::{
 use std::{collections::BTreeMap, fmt};
 
 /// What fills an output before a call, so that a byte written by mistake shows.
-const FILL: u8 = 0xA5;
+pub const FILL: u8 = 0xA5;
 
 #[derive(Clone)]
 pub struct Problem {

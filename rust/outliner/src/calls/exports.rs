@@ -1,4 +1,5 @@
-//! The library's calls at full size as C declares them, for any crate that links it. include/zone_outliner.h documents each.
+//! The library's calls at full size as C declares them, and `call`, which lends them memory, for any crate that links the library.
+//! include/zone_outliner.h documents each.
 use std::marker::PhantomData;
 
 /// A slice as the library takes it: a pointer, then a length in elements.
@@ -12,6 +13,12 @@ pub struct Shared<'a, T> {
 impl<'a, T> From<&'a [T]> for Shared<'a, T> {
     fn from(slice: &'a [T]) -> Self {
         Self { start: slice.as_ptr(), length: slice.len(), lent: PhantomData }
+    }
+}
+
+impl<'a, T> From<&'a mut [T]> for Shared<'a, T> {
+    fn from(slice: &'a mut [T]) -> Self {
+        Self::from(&*slice)
     }
 }
 
@@ -112,3 +119,49 @@ unsafe extern "C" {
         mode: usize,
     ) -> u64;
 }
+
+/// The call of this name on a table and a state, with what comes after them; or with what comes before the outputs, `=>`, the outputs, and
+/// what comes after. The library is proved to read and write within the lengths, for any contents.
+macro_rules! call {
+    ($call:ident, $table:expr, $memory:expr $(, $before:expr)* => $out:expr $(, $after:expr)*) => {{
+        let out = $out;
+        call!(
+            $call,
+            $table,
+            $memory
+            $(, $before)*,
+            out.start.as_mut_slice().into(),
+            out.size.as_mut_slice().into(),
+            out.group.as_mut_slice().into(),
+            out.area.as_mut_slice().into(),
+            out.edges.as_mut_slice().into(),
+            out.summary.as_mut_slice().into()
+            $(, $after)*
+        )
+    }};
+    ($call:ident, $table:expr, $memory:expr $(, $more:expr)*) => {{
+        let (t, m) = ($table, $memory);
+        // SAFETY: each pointer comes with the length of the slice that it is taken from; what is written is borrowed for it alone, so that
+        // no two of the slices overlap.
+        unsafe {
+            $call(
+                t.edges.as_slice().into(),
+                t.reverse.as_slice().into(),
+                t.area.as_slice().into(),
+                m.head.as_mut_slice().into(),
+                m.cells.as_mut_slice().into(),
+                m.parent.as_mut_slice().into(),
+                m.rank.as_mut_slice().into(),
+                m.cell_mark.as_mut_slice().into(),
+                m.slot_row.as_mut_slice().into(),
+                m.slot_cell.as_mut_slice().into(),
+                m.prev.as_mut_slice().into(),
+                m.next.as_mut_slice().into(),
+                m.row_slot.as_mut_slice().into(),
+                m.row_mark.as_mut_slice().into()
+                $(, $more)*
+            )
+        }
+    }};
+}
+pub(crate) use call;

@@ -15,7 +15,7 @@ use crate::{
     random::Random,
     report::Report,
     rules::{
-        bytes::{MOST_CELLS, cell_bytes},
+        bytes::{MOST_CELLS, MOST_PLACES as PLACES, MOST_SLOTS as SLOTS, cell_bytes},
         cells::{lies_under, resolution},
     },
     tables::{
@@ -48,10 +48,6 @@ pub const SECTIONS: [(&str, Section); 10] = [
 
 /// Those in which the Rust is asked as well, apart from `odd` and `pool`, which are about nothing else.
 pub const ASK_THE_RUST: [&str; 7] = ["walk", "short", "dissolve", "standing", "boundary", "damage", "full"];
-
-/// As many slots and places as the byte entry points take.
-const SLOTS: u32 = 1024;
-const PLACES: u32 = 256;
 
 impl Context<'_> {
     fn rounds(&self, default: usize) -> usize {

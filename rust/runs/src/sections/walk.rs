@@ -17,15 +17,19 @@ const DEEPEST_IN_A_TABLE: u32 = 4;
 pub fn run(context: &mut Context, report: &mut Report) -> Result<(), String> {
     for _ in 0..context.rounds(10) {
         for resolution in 0..=15 {
-            let cells = [hexagon(resolution, &mut context.random), pentagon(resolution, &mut context.random)];
-            for cell in cells {
-                for target in 0..=15.min(resolution + 7) {
-                    compare_with_the_rust(cell, target, report)?;
-                    if (resolution..=resolution + DEEPEST_IN_A_TABLE).contains(&target) {
-                        report.check(&single_cell(cell, target, &mut context.random))?;
-                    }
-                }
-            }
+            let random = &mut context.random;
+            every_target(hexagon(resolution, random), resolution, random, report)?;
+            every_target(pentagon(resolution, random), resolution, random, report)?;
+        }
+    }
+    Ok(())
+}
+
+fn every_target(cell: u64, resolution: u32, random: &mut Random, report: &mut Report) -> Result<(), String> {
+    for target in 0..=15.min(resolution + 7) {
+        compare_with_the_rust(cell, target, report)?;
+        if (resolution..=resolution + DEEPEST_IN_A_TABLE).contains(&target) {
+            report.check(&single_cell(cell, target, random))?;
         }
     }
     Ok(())

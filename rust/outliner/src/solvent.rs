@@ -22,7 +22,8 @@ impl SolventBuilder {
         Self { heterogeneous: false, slots: None, capacity: None }
     }
 
-    /// Mixed mode: coarser cells are taken too, and none may lie under another.
+    /// Mixed mode: coarser cells are taken too, and none may lie under another. Outlines are drawn at the table's resolution, which h3o has
+    /// to be told here.
     ///
     /// ```
     /// use outliner::{EdgeTable, Refusal, SolventBuilder};

@@ -2,7 +2,7 @@
 //! of the outline and as many edges that belong to another base cell.
 use super::{Context, Report, SLOTS, dissolve_call};
 use crate::{
-    problem::{AGAINST_THE_RUST, Call, Problem},
+    problem::{Call, Problem},
     random::Random,
     rules::{cells::base_cell, walk::outline},
     tables::{
@@ -58,7 +58,7 @@ fn compare_with_the_rust(cell: u64, target: u32, report: &mut Report) -> Result<
     if theirs != outline(cell, target) {
         return Err(format!("walk: the outline of {cell:016x} at resolution {target} is not the Rust's"));
     }
-    report.counts.add(AGAINST_THE_RUST);
+    report.counts.add(crate::problem::AGAINST_THE_RUST);
     Ok(())
 }
 

@@ -67,8 +67,8 @@ pub use crate::rules::bytes::{dissolve, standing};
 #[cfg(not(exports))]
 pub use crate::rules::full as exports;
 
-/// The walk alone: all edges of an outline, by exclusive or. For the benchmark.
-#[cfg(walk)]
+/// The walk alone: all edges of an outline, by exclusive or. For the benchmark beside the Rust's.
+#[cfg(all(h3o, walk))]
 pub fn walk(cell: u64, target: u32) -> Option<u64> {
     unsafe extern "C" {
         fn zone_walk(cell: u64, target: usize) -> u64;
@@ -77,7 +77,7 @@ pub fn walk(cell: u64, target: u32) -> Option<u64> {
     Some(unsafe { zone_walk(cell, target as usize) })
 }
 
-#[cfg(not(walk))]
+#[cfg(all(h3o, not(walk)))]
 pub fn walk(_: u64, _: u32) -> Option<u64> {
     None
 }

@@ -1,9 +1,9 @@
 // The records of the list. A head of 32 bytes has the kind (1 a table, 2 a dissolve on the last table, 0 the end), the mode or, at the
 // end, the number of dissolves, slots, places, the result, and the lengths of the input and the output that follow it.
+use byte_calls::dissolve;
 use check::same;
 use codec::read_u32;
 use codec::read_u64;
-use host::bytes::zone_dissolve;
 use slices::wide32;
 ghost use mathlib.Core.Path.{_≡_};
 ghost use Prim.Native.Nat.{_+_, _≤_, _<_, _^_};
@@ -30,7 +30,7 @@ fn is_answered(head: &[u8], table: &[u8], cells: &[u8], answer: &[u8]) -> bool
         return false;
     }
     let written = &mut out[..answer.len()];
-    let result = zone_dissolve(
+    let result = dissolve(
         table,
         cells,
         written,

@@ -2,11 +2,11 @@
 // feed that sends cells again. What is read out at the end is held to a dissolve of the cells that were accepted.
 mod show;
 
+use byte_calls::dissolve;
+use byte_calls::standing;
 use check::same;
 use codec::write_u64;
 use files::read_file;
-use host::bytes::zone_dissolve;
-use host::bytes::zone_standing;
 use show::show_alike;
 use show::show_file;
 use show::show_offer;
@@ -67,7 +67,7 @@ fn keep(accepted: &mut [u8], end: usize, cell: u64, result: u64) -> usize
 
 fn offer(table: &[u8], state: &mut [u8], slots: u32, cell: u64) -> u64 {
     let mut out = [0u8; 24];
-    let result = zone_standing(table, state, &mut out, slots, PLACES, OFFER, cell);
+    let result = standing(table, state, &mut out, slots, PLACES, OFFER, cell);
     show_offer(cell, result);
     result
 }
@@ -101,10 +101,10 @@ fn replay_in(table: &[u8], state: &mut [u8], feed: &[u64], slots: u32)
     let mut accepted = [0u8; 96];
     let mut out = [0u8; 256];
     let mut again = [0u8; 256];
-    zone_standing(table, state, &mut out, slots, PLACES, OPEN, 0);
+    standing(table, state, &mut out, slots, PLACES, OPEN, 0);
     let end = offer_each(table, state, &mut accepted, feed, slots);
-    let read = zone_standing(table, state, &mut out, slots, PLACES, READ_OUT, 0);
-    let dissolved = zone_dissolve(table, &accepted[..end], &mut again, EVEN, slots, PLACES);
+    let read = standing(table, state, &mut out, slots, PLACES, READ_OUT, 0);
+    let dissolved = dissolve(table, &accepted[..end], &mut again, EVEN, slots, PLACES);
     show_reading(read, &out);
     show_alike((read == dissolved) & same(&out, &again));
 }

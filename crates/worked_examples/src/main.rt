@@ -1,21 +1,18 @@
 // The worked examples that are run, each a zone dissolved over the real table of a file: the empty list, T7 to T9, a list that
 // names a cell again, all 122 cells of resolution 0, and one cell whose outline of 13,122 edges fits a table.
-mod memory;
 mod show;
 
 use desk::Loaded;
+use desk::arrays::edge_numbers;
+use desk::arrays::row_floats;
+use desk::arrays::row_numbers;
+use desk::arrays::row_words;
 use desk::arrays::text_bytes;
 use desk::load_table;
-use memory::dissolve_cells;
-use memory::row_floats;
-use memory::row_numbers;
-use memory::row_words;
-use memory::slot_numbers;
+use full_size::dissolve_list;
 use show::show_answer;
 use show::show_title;
 ghost use mathlib.Core.Path.{_≡_};
-ghost use Prim.Native.Nat.{_≤_};
-ghost use lib.ListN.{length};
 ghost use Rattle.desk.specs.Loads.{countOf};
 ghost use Rattle.worked_examples.specs.BaseCells.{allOfBase};
 
@@ -47,15 +44,13 @@ fn base_cells() -> [u64; 122]
     cells
 }
 
-fn show_dissolved(edges: &[u64], reverse: &[u32], area: &[f64], list: &[u64], mode: usize)
-    requires { ⌜ length (now edges) ≤ 26244 ⌝ }
-{
+fn show_dissolved(edges: &[u64], reverse: &[u32], area: &[f64], list: &[u64], mode: usize) {
     let mut start = [0u32; 2];
     let mut size = [0u32; 2];
     let mut group = [0u32; 2];
     let mut ring_area = [0.0f64; 2];
-    let mut ring_edges = slot_numbers();
-    let answer = dissolve_cells(
+    let mut ring_edges = edge_numbers();
+    let answer = dissolve_list(
         edges,
         reverse,
         area,

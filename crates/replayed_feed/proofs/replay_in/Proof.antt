@@ -7,11 +7,11 @@ use lib.Seq.{length-take-le}
 use Rattle.replayed_feed.proofs.replay_in.Statement.{statement}
 use Rattle.replayed_feed.proofs.replay_in.Tie as tie
 
-slice-aggregate-zone-standing : tie.Need-slice-aggregate-zone-standing
-slice-aggregate-zone-standing c = search needs
+slice-aggregate-standing : tie.Need-slice-aggregate-standing
+slice-aggregate-standing c = search needs
 
-zone-standing-requires : tie.Need-zone-standing-requires
-zone-standing-requires c κs = search needs
+standing-requires : tie.Need-standing-requires
+standing-requires c κs = search needs
 
 slice-aggregate-offer-each : tie.Need-slice-aggregate-offer-each
 slice-aggregate-offer-each c = search needs
@@ -19,23 +19,23 @@ slice-aggregate-offer-each c = search needs
 offer-each-requires : tie.Need-offer-each-requires
 offer-each-requires c κs = search needs
 
-slice-aggregate-zone-standing-2 : tie.Need-slice-aggregate-zone-standing-2
-slice-aggregate-zone-standing-2 c = search needs
+slice-aggregate-standing-2 : tie.Need-slice-aggregate-standing-2
+slice-aggregate-standing-2 c = search needs
 
-zone-standing-requires-2 : tie.Need-zone-standing-requires-2
-zone-standing-requires-2 c κs = search needs
+standing-requires-2 : tie.Need-standing-requires-2
+standing-requires-2 c κs = search needs
 
 array-share-prefix-accepted : tie.Need-array-share-prefix-accepted
 array-share-prefix-accepted c = search needs
 
-slice-aggregate-zone-dissolve : tie.Need-slice-aggregate-zone-dissolve
-slice-aggregate-zone-dissolve c = sym (length-take-le _ _ (omega arith))
+slice-aggregate-dissolve : tie.Need-slice-aggregate-dissolve
+slice-aggregate-dissolve c = sym (length-take-le _ _ (omega arith))
 
-slice-aggregate-zone-dissolve-2 : tie.Need-slice-aggregate-zone-dissolve-2
-slice-aggregate-zone-dissolve-2 c = search needs
+slice-aggregate-dissolve-2 : tie.Need-slice-aggregate-dissolve-2
+slice-aggregate-dissolve-2 c = search needs
 
-zone-dissolve-requires : tie.Need-zone-dissolve-requires
-zone-dissolve-requires c κs = search needs
+dissolve-requires : tie.Need-dissolve-requires
+dissolve-requires c κs = search needs
 
 slice-aggregate-show-reading : tie.Need-slice-aggregate-show-reading
 slice-aggregate-show-reading c = search needs
@@ -65,16 +65,16 @@ pub replay-in-spec : {M : Type 1} → statement M
 replay-in-spec =
     tie.close
     (tie.spec
-    slice-aggregate-zone-standing
-    zone-standing-requires
+    slice-aggregate-standing
+    standing-requires
     slice-aggregate-offer-each
     offer-each-requires
-    slice-aggregate-zone-standing-2
-    zone-standing-requires-2
+    slice-aggregate-standing-2
+    standing-requires-2
     array-share-prefix-accepted
-    slice-aggregate-zone-dissolve
-    slice-aggregate-zone-dissolve-2
-    zone-dissolve-requires
+    slice-aggregate-dissolve
+    slice-aggregate-dissolve-2
+    dissolve-requires
     slice-aggregate-show-reading
     show-reading-requires
     slice-aggregate-same

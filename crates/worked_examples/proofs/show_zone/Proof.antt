@@ -59,11 +59,7 @@ slice-aggregate-show-dissolved-3 : tie.Need-slice-aggregate-show-dissolved-3
 slice-aggregate-show-dissolved-3 c = sym (length-take-le _ _ (let load = c .before .before .before .before .before .before .before .before .before .load-table in omega (arith, c .before .before .before .before .rows-of .ensures, load .ensures .2, load .kept .1 .1 .1 .1 .0)))
 
 show-dissolved-requires : tie.Need-show-dissolved-requires
-show-dissolved-requires c κs =
-    let load = c .before .before .before .before .before .before .before .before .before .load-table in
-    let rows = c .before .before .before .before .rows-of in
-    let count = length-take-le (rows .result) (load .last .1 .1 .0) (omega (arith, rows .ensures, load .ensures .0, load .kept .1 .1 .0)) in
-    omega (arith, count, rows .ensures, load .ensures .0, c .before .before .before .before .before .before .before .before .before .before .before .before .before .before .before .before .before .row-words .ensures)
+show-dissolved-requires c κs = search needs
 
 returns : tie.Need-returns
 returns c = search needs

@@ -30,8 +30,8 @@ read-u32-requires-2 c κs = search needs
 read-u32-requires-3 : tie.Need-read-u32-requires-3
 read-u32-requires-3 c κs = search needs
 
-zone-dissolve-requires : tie.Need-zone-dissolve-requires
-zone-dissolve-requires c κs = search needs
+dissolve-requires : tie.Need-dissolve-requires
+dissolve-requires c κs = search needs
 
 read-u64-requires : tie.Need-read-u64-requires
 read-u64-requires c κs = search needs
@@ -53,7 +53,7 @@ is-answered-spec =
     read-u32-requires
     read-u32-requires-2
     read-u32-requires-3
-    zone-dissolve-requires
+    dissolve-requires
     read-u64-requires
     same-requires
     returns-2)

@@ -3,6 +3,10 @@
 // Its arrays take 5.6 MB of stack (desk::arrays has them one by one), and with the library's own the program takes 6.5 MB.
 mod zone;
 
+use arguments::Begun;
+use arguments::begin;
+use command_line::Line;
+use command_line::Tool;
 use desk::Loaded;
 use desk::arrays::edge_numbers;
 use desk::arrays::place_lines;
@@ -15,63 +19,8 @@ use desk::arrays::row_words;
 use desk::arrays::text_bytes;
 use desk::load_cells;
 use desk::load_table;
-use desk::words::complain;
-use desk::words::complain_text;
-use desk::words::say;
 use desk::words::say_report;
-use outline_options::Options;
-use outline_options::Status;
-use outline_options::put_fault;
-use outline_options::word_of;
 use zone::report_zone;
-
-fn say_help() {
-    say(
-        b"outline TABLE CELLS [--mode even|mixed] [--rows]
-Dissolves the cells of a list and prints their outline: what it counts, then each polygon with its rings, the outer first,
-and of each ring its group, its area (on a sphere of radius 1) and its edges.
-  TABLE   edge table: rows of 20 bytes, the edge (u64), the row of its reverse (u32), the bits of its area term (u64), least byte first
-  CELLS   text: one cell a line in hexadecimal, with or without 0x; blank lines and what follows a # are passed over
-  --mode  even: all cells are of the table's resolution; mixed: coarser ones too, none under another; none named means even
-  --rows  edges by their rows in the table, instead of their numbers in hexadecimal
-Answers go to standard output; one line for what is wrong with an argument or a file, or for a refusal, to standard error.
-",
-    );
-}
-
-// Takes word number k of the command line.
-fn take_argument(options: Options, k: usize) -> Options {
-    let mut word = io::buffer();
-    let size = os::arg(k, &mut word);
-    if os::errno() != 0 {
-        return options.refuse(k);
-    }
-    options.take(k, word_of(&word[..size]))
-}
-
-fn read_options() -> Options {
-    let count = os::arg_count();
-    let mut options = Options::new();
-    let mut k: usize = 1;
-    while k < count {
-        options = take_argument(options, k);
-        k += 1;
-    }
-    options
-}
-
-// Word number k cannot be taken.
-fn complain_argument(mode: usize, k: usize) {
-    let mut word = io::buffer();
-    let size = os::arg(k, &mut word);
-    if os::errno() != 0 {
-        complain(b"outline: an argument is longer than 4096 bytes\n");
-        return;
-    }
-    let mut line = io::large_buffer();
-    let end = put_fault(&mut line, 0, mode, &word[..size]);
-    complain_text(&line, end);
-}
 
 // The outline of the cells over the table, in outputs of full size.
 fn show(
@@ -140,30 +89,22 @@ fn outline(table_name: &[u8], list_name: &[u8], mode: usize, by_row: bool) {
     );
 }
 
-fn run(options: Options) {
+fn run(line: Line) {
     let mut table_name = io::buffer();
     let mut list_name = io::buffer();
-    let table_size = os::arg(options.table, &mut table_name);
-    let list_size = os::arg(options.list, &mut list_name);
+    let table_size = os::arg(line.table, &mut table_name);
+    let list_size = os::arg(line.list, &mut list_name);
     outline(
         &table_name[..table_size],
         &list_name[..list_size],
-        options.mode,
-        options.rows,
+        line.mode,
+        line.rows,
     );
 }
 
 fn main() {
-    let options = read_options();
-    match options.status() {
-        Status::Help => say_help(),
-        Status::Fault(k) => complain_argument(options.mode, k),
-        Status::ModeWanted => {
-            complain(b"outline: after --mode comes even or mixed; outline --help says more\n")
-        }
-        Status::FileWanted => {
-            complain(b"outline: a TABLE and a CELLS file are wanted; outline --help says more\n")
-        }
-        Status::Ready => run(options),
-    }
+    let Begun::Ready(line) = begin(Tool::Outline) else {
+        return;
+    };
+    run(line);
 }

@@ -1,12 +1,28 @@
--- What the import of a zone leaves: the outputs as dissolve leaves them, and what it answered told.
+-- What the table's check tells, and what the import of a zone leaves: the outputs as dissolve leaves them, and what it answered told.
 -- Assumes nothing.
 use Prim.Native.Nat.{ℕ}
 use mathlib.Core.Path.{_≡_}
-use mathlib.Core.List.{List}
+use mathlib.Core.List.{List, []}
+use Rattle.scope.specs.declared.Verdict.{Verdict}
+use Rattle.scope.specs.declared.Verdict.the-variants.{Accepted, Refused}
+use Rattle.scope.specs.Answers.{isAccepted}
 use Rattle.scope.specs.Memory.{Output}
+use Rattle.text.specs.Text.{Wrote}
+use Rattle.report.specs.Refusals.{refusalText}
+use Rattle.desk.specs.declared.words.Report.{Report}
 use Rattle.zone_lines.specs.declared.Told.{Told}
 use Rattle.zone_lines.specs.Telling.{Tells}
 use Rattle.full_size.specs.Drawing.{Drawn}
+
+-- the refusal of the table in this file, nothing where it keeps the rules
+unfoldable pub verdictText : List ℕ → Verdict → List ℕ
+verdictText table Accepted = []
+verdictText table (Refused number row) = refusalText table table number row 0
+
+-- The table's name, the verdict on it, the text before and after.
+pub record TableTold (table : List ℕ) (verdict : Verdict) (before after : List ℕ) (r : Report) : Type 0 where
+  pub text : Wrote before 0 after (r .size) (verdictText table verdict)
+  pub passes : r .done ≡ isAccepted verdict
 
 -- Mode 2 names none.
 abbrev pub noMode : ℕ

@@ -3,6 +3,9 @@
 // functions called: here they are put in a row.
 mod year;
 
+use arguments::Begun;
+use arguments::begin;
+use command_line::Tool;
 use desk::Loaded;
 use desk::arrays::feed_lines;
 use desk::arrays::feed_words;
@@ -12,48 +15,10 @@ use desk::arrays::row_words;
 use desk::arrays::text_bytes;
 use desk::load_cells;
 use desk::load_table;
-use desk::words::complain;
-use desk::words::say;
 use year::audit_feed;
 ghost use Prim.Native.Nat.{_≤_};
 ghost use lib.ListN.{length};
 ghost use Rattle.desk.specs.Loads.{countOf};
-
-fn say_help() {
-    say(
-        b"year_audit TABLE FEED
-Offers the cells of a year's feed one by one to a standing state, replays and all, and prints how many were offered, accepted, and refused
-by number; how many replays would each have drawn a second outline; whether the standing outline is the one dissolved afresh from the
-accepted cells; and what one visit to each held cell is credited, without the check and with it.
-  TABLE   edge table: rows of 20 bytes, the edge (u64), the row of its reverse (u32), the bits of its area term (u64), least byte first
-  FEED    text: one cell a line in hexadecimal, with or without 0x, in the order of arrival, at most 65,536 cells; blank lines and what
-          follows a # are passed over
-Answers go to standard output; one line for what is wrong with an argument or a file, or for a refusal, to standard error.
-",
-    );
-}
-
-fn asks_help() -> bool {
-    let mut word = io::buffer();
-    let size = os::arg(1, &mut word);
-    check::same(&word[..size], b"--help")
-}
-
-fn main() {
-    if asks_help() {
-        say_help();
-        return;
-    }
-    let mut table = io::buffer();
-    let mut feed = io::buffer();
-    let table_size = os::arg(1, &mut table);
-    let feed_size = os::arg(2, &mut feed);
-    if (os::arg_count() != 3) | (table_size == 0) | (feed_size == 0) {
-        complain(b"year_audit: a TABLE and a FEED file are wanted; year_audit --help says more\n");
-        return;
-    }
-    audit_files(&table[..table_size], &feed[..feed_size]);
-}
 
 // Loads the table at `path`; the file's bytes are gone when it returns.
 fn load_rows(path: &[u8], edges: &mut [u64], reverse: &mut [u32], area: &mut [f64]) -> Loaded
@@ -91,4 +56,15 @@ fn audit_files(table: &[u8], feed: &[u8]) {
         &area[..rows],
         &cells[..count],
     );
+}
+
+fn main() {
+    let Begun::Ready(line) = begin(Tool::YearAudit) else {
+        return;
+    };
+    let mut table = io::buffer();
+    let mut feed = io::buffer();
+    let table_size = os::arg(line.table, &mut table);
+    let feed_size = os::arg(line.list, &mut feed);
+    audit_files(&table[..table_size], &feed[..feed_size]);
 }

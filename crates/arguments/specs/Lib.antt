@@ -1,0 +1,2 @@
+-- What a tool may count on where it begins.
+pub mod Readiness

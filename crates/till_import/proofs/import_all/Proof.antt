@@ -19,24 +19,6 @@ row-numbers-requires c κs = search needs
 row-floats-requires : tie.Need-row-floats-requires
 row-floats-requires c κs = search needs
 
-buffer-requires : tie.Need-buffer-requires
-buffer-requires c κs = search needs
-
-slice-aggregate-file-named : tie.Need-slice-aggregate-file-named
-slice-aggregate-file-named c = search needs
-
-file-named-requires : tie.Need-file-named-requires
-file-named-requires c κs = search needs
-
-returns : tie.Need-returns
-returns c = search needs
-
-array-share-prefix-name : tie.Need-array-share-prefix-name
-array-share-prefix-name c = search needs
-
-slice-aggregate-table : tie.Need-slice-aggregate-table
-slice-aggregate-table c = search needs
-
 slice-aggregate-load-table : tie.Need-slice-aggregate-load-table
 slice-aggregate-load-table c = search needs
 
@@ -58,8 +40,8 @@ enum-known-rows c = search needs
 enum-told : tie.Need-enum-told
 enum-told c = search needs
 
-returns-2 : tie.Need-returns-2
-returns-2 c = search needs
+returns : tie.Need-returns
+returns c = search needs
 
 slice-aggregate-import-over : tie.Need-slice-aggregate-import-over
 slice-aggregate-import-over c = search needs
@@ -85,8 +67,8 @@ slice-aggregate-import-over-4 c = sym (length-take-le _ _ (loaded-in (c .before 
 import-over-requires : tie.Need-import-over-requires
 import-over-requires c κs = search needs
 
-returns-3 : tie.Need-returns-3
-returns-3 c = search needs
+returns-2 : tie.Need-returns-2
+returns-2 c = search needs
 
 pub import-all-spec : {M : Type 1} → statement M
-import-all-spec = tie.close (tie.spec text-bytes-requires row-words-requires row-numbers-requires row-floats-requires buffer-requires slice-aggregate-file-named file-named-requires returns array-share-prefix-name slice-aggregate-table slice-aggregate-load-table slice-aggregate-load-table-2 slice-aggregate-load-table-3 slice-aggregate-load-table-4 load-table-requires enum-known-rows enum-told returns-2 slice-aggregate-import-over array-share-prefix-edges slice-aggregate-import-over-2 array-share-prefix-reverse slice-aggregate-import-over-3 array-share-prefix-area slice-aggregate-import-over-4 import-over-requires returns-3)
+import-all-spec = tie.close (tie.spec text-bytes-requires row-words-requires row-numbers-requires row-floats-requires slice-aggregate-load-table slice-aggregate-load-table-2 slice-aggregate-load-table-3 slice-aggregate-load-table-4 load-table-requires enum-known-rows enum-told returns slice-aggregate-import-over array-share-prefix-edges slice-aggregate-import-over-2 array-share-prefix-reverse slice-aggregate-import-over-3 array-share-prefix-area slice-aggregate-import-over-4 import-over-requires returns-2)

@@ -9,10 +9,13 @@ use Rattle.till_import.proofs.import_words.Statement.{statement}
 use Rattle.till_import.proofs.import_words.Tie as tie
 
 abbrev Inv-loop : tie.InvT-loop
-Inv-loop text₀ table edges reverse area count k₀ text k = length text ≡ length text₀
+Inv-loop text₀ table edges reverse area first count k₀ text k = length text ≡ length text₀
 
 abbrev μ-loop : tie.MeasureT-loop
-μ-loop text₀ table edges reverse area count k₀ text k = count - k
+μ-loop text₀ table edges reverse area first count k₀ text k = count - k
+
+arg-count-requires : tie.Need-arg-count-requires Inv-loop μ-loop
+arg-count-requires c κs = search needs
 
 loop-holds : tie.Need-loop-holds Inv-loop μ-loop
 loop-holds c = refl
@@ -36,4 +39,4 @@ returns : tie.Need-returns Inv-loop μ-loop
 returns c = search needs
 
 pub import-words-spec : {M : Type 1} → statement M
-import-words-spec = tie.close (tie.spec Inv-loop μ-loop loop-holds import-word-requires add-k loop-less loop-again same-length returns)
+import-words-spec = tie.close (tie.spec Inv-loop μ-loop arg-count-requires loop-holds import-word-requires add-k loop-less loop-again same-length returns)

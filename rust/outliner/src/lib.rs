@@ -7,6 +7,8 @@
 //! The library knows no globe. It takes the sides of cells from an [`EdgeTable`] of the resolution at which outlines are drawn, which
 //! says for each side which row holds it seen from the other cell, and what it adds to the area of a ring.
 //!
+//! A call takes less than 1 MB of stack, of which a thread of std has two.
+//!
 //! ```
 //! use outliner::{Dissolution, EdgeTable, SolventBuilder};
 //!

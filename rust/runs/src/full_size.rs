@@ -1,13 +1,12 @@
 //! The files of tests/full_size.sh: tables and lists at the bounds of what the tools take, made from the largest real table.
 use crate::{
     random::Random,
-    rules::{bytes::table_bytes, cells::edge, table::Table},
+    rules::bytes::table_bytes,
     tables::{
         Given,
         real::Folder,
-        regions::{disk, mixed, scattered},
-        table_of_pairs,
-        torus::{ancestor, base_cell, child},
+        regions::{disk, elsewhere, mixed, scattered, with_more_pairs},
+        torus::ancestor,
     },
 };
 use std::{fs, path::Path};
@@ -25,7 +24,7 @@ pub fn write(folder: &Folder, to: &str) -> Result<(), String> {
         fs::write(&path, bytes).map_err(|error| format!("{}: {error}", path.display()))
     };
     write("big.table", &table_bytes(&big.table))?;
-    let full = table_bytes(&with_one_more_pair(&big.table));
+    let full = table_bytes(&with_more_pairs(&big.table, 1));
     write("full.table", &full)?;
     write("long.table", &[full.as_slice(), &[0]].concat())?;
     for (name, list) in lists(&big) {
@@ -36,15 +35,6 @@ pub fn write(folder: &Folder, to: &str) -> Result<(), String> {
     write("long.cells", format!("{room}\n").as_bytes())
 }
 
-/// The table with the last two edges of two cells elsewhere, which come after all others: 65,536 rows.
-fn with_one_more_pair(table: &Table) -> Table {
-    let far = |digit: u64| (1..=9).fold(base_cell(121), |cell, level| child(cell, level, digit));
-    let rows = (0..table.rows()).filter(|row| *row < table.reverse_of(*row));
-    let mut pairs = rows.map(|row| (table.edges[row], table.edges[table.reverse_of(row)])).collect::<Vec<_>>();
-    pairs.push((edge(far(5), 6), edge(far(6), 6)));
-    table_of_pairs(&pairs, |row| table.area.get(row).copied().unwrap_or(0.))
-}
-
 /// 10,000 cells of a disk, in which every 21st is left out.
 fn zone(big: &Given) -> Vec<u64> {
     disk(big, 10_500).chunks(21).flat_map(|part| part[1..].to_vec()).collect()
@@ -53,7 +43,7 @@ fn zone(big: &Given) -> Vec<u64> {
 fn lists(big: &Given) -> Vec<(&'static str, Vec<u64>)> {
     let zone = zone(big);
     // Every cell of the table, then such as are not in it.
-    let elsewhere = far_cells();
+    let elsewhere = elsewhere(MOST_CELLS + 1);
     let most = [big.cells.as_slice(), &elsewhere].concat()[..MOST_CELLS].to_vec();
     let equal = [&most[..MOST_CELLS - 1], &most[..1]].concat();
     vec![
@@ -68,13 +58,6 @@ fn lists(big: &Given) -> Vec<(&'static str, Vec<u64>)> {
         ("long.feed", vec![zone[0]; MOST_OFFERED + 1]),
         ("zone.cells", zone),
     ]
-}
-
-/// Cells of resolution 9 of another base cell.
-fn far_cells() -> Vec<u64> {
-    let digit = |n: usize, level: u32| (n / 7_usize.pow(9 - level) % 7) as u64;
-    let cell = |n: usize| (1..=9).fold(base_cell(121), |cell, level| child(cell, level, digit(n, level)));
-    (0..=MOST_CELLS).map(cell).collect()
 }
 
 /// 20,000 offers: after every ten cells the broker restarts and sends nine of all that came again; then a cell comes that is coarse, of elsewhere, or none.

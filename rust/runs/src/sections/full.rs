@@ -14,8 +14,8 @@ use crate::{
     subject::exports,
     tables::{
         Given,
-        regions::{disk, scattered},
-        torus::{ancestor, child},
+        regions::{disk, scattered, under, with_more_pairs},
+        torus::ancestor,
     },
 };
 
@@ -35,6 +35,7 @@ pub fn run(context: &mut Context, report: &mut Report) -> Result<(), String> {
     whole(&deep, &deep.coarser.clone(), 1, report)?;
     let big = Given::new("big_r9", context.folder.read("big_r9")?);
     long_lists(&big, report)?;
+    rows_around_the_bound(&big, report)?;
     let around = disk(&big, 3000);
     whole(&big, &scattered(&big, &around), 1, report)?;
     whole(&big, &around, 0, report)
@@ -43,17 +44,15 @@ pub fn run(context: &mut Context, report: &mut Report) -> Result<(), String> {
 /// One list, with as much room as the table can need.
 fn whole(given: &Given, list: &[u64], mode: u64, report: &mut Report) -> Result<(), String> {
     let lent = oracle_answer::lent(&given.table);
-    let memory = Memory::opened(7, given.table.rows(), given.table.rows(), list.len());
-    let out = Outputs::new(given.table.rows(), given.table.rows());
+    let rows = given.table.rows();
+    let memory = Memory::opened(7, rows, rows.min(65_536), list.len());
+    let out = Outputs::new(rows, rows);
     Calls { given, lent: lent.as_ref(), memory, out, taken: None, report }.dissolve(list, mode)
 }
 
 /// Lists of more than 16,384 cells, which the library checks by parts of so many: too many cells, and faults in the last part.
 fn long_lists(given: &Given, report: &mut Report) -> Result<(), String> {
-    let top = ancestor(given.cells[0], 4);
-    let digit = |n: usize, level: u32| (n / 7_usize.pow(9 - level) % 7) as u64;
-    let cells = (0..16_400).map(|n| (5..=9).fold(top, |cell, level| child(cell, level, digit(n, level))));
-    let good = cells.collect::<Vec<_>>();
+    let good = under(ancestor(given.cells[0], 4), 9, 16_400);
     let with = |place: usize, cell: u64| [&good[..place], &[cell], &good[place + 1..]].concat();
     let invalid = with(16_399, 7);
     let equal = with(16_395, good[3]);
@@ -63,6 +62,16 @@ fn long_lists(given: &Given, report: &mut Report) -> Result<(), String> {
         let memory = Memory::opened(7, given.table.rows(), 64, 16_384);
         let out = Outputs::new(1, 1);
         Calls { given, lent: lent.as_ref(), memory, out, taken: None, report }.dissolve(&list, mode)?;
+    }
+    Ok(())
+}
+
+/// 65,536 rows, which are taken, and two more.
+fn rows_around_the_bound(big: &Given, report: &mut Report) -> Result<(), String> {
+    for more in [1, 2] {
+        let table = with_more_pairs(&big.table, more);
+        let name = format!("big_r9 with {more} more pairs");
+        whole(&Given { name, table, cells: Vec::new(), coarser: Vec::new() }, &disk(big, 20), 0, report)?;
     }
     Ok(())
 }

@@ -1,8 +1,14 @@
-//! Cells of a large table: those around one, some that don't touch, some of several resolutions.
-use super::Given;
+//! Cells of a large table: those around one, some that don't touch, some of several resolutions; and cells and edges elsewhere.
+use super::{
+    Given, table_of_pairs,
+    torus::{base_cell, child},
+};
 use crate::{
     random::Random,
-    rules::cells::{lies_under, owner, resolution},
+    rules::{
+        cells::{edge, lies_under, owner, resolution},
+        table::Table,
+    },
 };
 use std::collections::BTreeSet;
 
@@ -54,4 +60,24 @@ pub fn mixed(given: &Given, count: usize, random: &mut Random) -> Vec<u64> {
 fn neighbours(given: &Given, cell: u64) -> Vec<u64> {
     let rows = given.table.outline(cell).into_iter().flatten();
     rows.map(|row| owner(given.table.edges[given.table.reverse_of(row)])).collect()
+}
+
+/// The first cells of a resolution under a coarser one, by their numbers.
+pub fn under(top: u64, target: u32, count: usize) -> Vec<u64> {
+    let digit = |n: usize, level: u32| (n / 7_usize.pow(target - level) % 7) as u64;
+    let cell = |n: usize| (resolution(top) + 1..=target).fold(top, |cell, level| child(cell, level, digit(n, level)));
+    (0..count).map(cell).collect()
+}
+
+/// Cells of the last base cell, of which no table here has one.
+pub fn elsewhere(count: usize) -> Vec<u64> {
+    under(base_cell(121), 9, count)
+}
+
+/// A table of resolution 9 with so many more pairs, of edges elsewhere, whose numbers come after all others.
+pub fn with_more_pairs(table: &Table, count: usize) -> Table {
+    let rows = (0..table.rows()).filter(|row| *row < table.reverse_of(*row));
+    let mut pairs = rows.map(|row| (table.edges[row], table.edges[table.reverse_of(row)])).collect::<Vec<_>>();
+    pairs.extend(elsewhere(2 * count).chunks_exact(2).map(|cells| (edge(cells[0], 6), edge(cells[1], 6))));
+    table_of_pairs(&pairs, |row| table.area.get(row).copied().unwrap_or(0.))
 }

@@ -36,6 +36,45 @@ impl Memory {
             row_mark: vec![0; rows],
         }
     }
+
+    /// The bytes of its columns, one after the other, least byte first, as include/zone_outliner.h has them.
+    pub fn to_bytes(&self) -> Vec<u8> {
+        let words = |column: &[u32]| column.iter().flat_map(|word| word.to_le_bytes()).collect::<Vec<_>>();
+        let places = [&self.parent, &self.rank, &self.cell_mark];
+        let slots = [&self.slot_row, &self.slot_cell, &self.prev, &self.next];
+        let rows = [&self.row_slot, &self.row_mark];
+        let mut bytes = words(&self.head);
+        bytes.extend(self.cells.iter().flat_map(|cell| cell.to_le_bytes()));
+        places.into_iter().chain(slots).chain(rows).for_each(|column| bytes.extend(words(column)));
+        bytes
+    }
+
+    /// Takes its columns from such bytes; none where they are more or fewer.
+    pub fn fill(&mut self, mut bytes: &[u8]) -> Option<()> {
+        let Self { head, cells, parent, rank, cell_mark, slot_row, slot_cell, prev, next, row_slot, row_mark } = self;
+        take_words(head, &mut bytes)?;
+        for cell in cells {
+            *cell = u64::from_le_bytes(*take(&mut bytes)?);
+        }
+        for column in [parent, rank, cell_mark, slot_row, slot_cell, prev, next, row_slot, row_mark] {
+            take_words(column, &mut bytes)?;
+        }
+        bytes.is_empty().then_some(())
+    }
+}
+
+fn take_words(column: &mut [u32], bytes: &mut &[u8]) -> Option<()> {
+    for word in column {
+        *word = u32::from_le_bytes(*take(bytes)?);
+    }
+    Some(())
+}
+
+/// The first bytes, which are then behind.
+fn take<'b, const N: usize>(bytes: &mut &'b [u8]) -> Option<&'b [u8; N]> {
+    let (first, rest) = bytes.split_first_chunk()?;
+    *bytes = rest;
+    Some(first)
 }
 
 /// The outputs of read out and dissolve: a record for each ring, the rows of all rings, and kind, polygons, rings and area bits.

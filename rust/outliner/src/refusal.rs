@@ -45,7 +45,7 @@ pub enum Refusal {
     },
     /// 8: more cells than the capacity.
     TooManyCells,
-    /// 9: the state was changed by something else than the calls.
+    /// 9: the state breaks a rule: something else than the calls has changed it, or it belongs to another table.
     BrokenState,
     /// 10: slices that disagree in length, a capacity out of its range, or an output too short.
     BadLengths,
@@ -128,7 +128,12 @@ impl fmt::Display for Refusal {
                 write!(f, "no room for the outline of cell {index}: open the zone with more slots")
             }
             Self::TooManyCells => write!(f, "more cells than the zone can hold: open it with a larger capacity"),
-            Self::BrokenState => write!(f, "the memory of the zone was changed from outside: open it again"),
+            Self::BrokenState => {
+                write!(
+                    f,
+                    "the state of the zone is damaged or belongs to another table: open it anew and offer its cells"
+                )
+            }
             Self::BadLengths => write!(
                 f,
                 "lengths or capacities do not fit: give the table's columns one length, 1 to 65,536 slots and room for 1 to 16,384 cells"

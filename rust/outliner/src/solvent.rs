@@ -102,6 +102,22 @@ impl<'t> Solvent<'t> {
         Ok(Zone::new(self.table, memory))
     }
 
+    /// The zone that was kept as [`Zone::to_bytes`], over the same table and with the same slots and capacity. It keeps the mode in which it
+    /// was opened.
+    ///
+    /// # Errors
+    ///
+    /// [`Refusal::BadLengths`] and [`Refusal::BadTable`] as in [`open`](Self::open), the first also for bytes of another length, and
+    /// [`Refusal::BrokenState`] for bytes that break a rule of a state. Rules can't find every changed byte: keep a checksum beside them.
+    pub fn reopen(&self, bytes: &[u8]) -> Result<Zone<'t>, Refusal> {
+        let mut memory = self.memory()?;
+        memory.fill(bytes).ok_or(Refusal::BadLengths)?;
+        let mut zone = Zone::new(self.table, memory);
+        // Reading it out checks table and state.
+        zone.read_out()?;
+        Ok(zone)
+    }
+
     /// The lent memory. A capacity out of its range, which the library refuses before all else, is refused before memory is taken for it.
     fn memory(&self) -> Result<Memory, Refusal> {
         if (1..=MOST_SLOTS).contains(&self.slots) && (1..=MOST_CELLS).contains(&self.places) {

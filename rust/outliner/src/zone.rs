@@ -61,4 +61,27 @@ impl<'t> Zone<'t> {
         let held = self.memory.head.get(1).map_or(0, |&held| held as usize);
         self.memory.cells.get(..held).unwrap_or_default()
     }
+
+    /// All that the zone is, to be kept over a restart: [`Solvent::reopen`](crate::Solvent::reopen) takes it back. The bytes are those of
+    /// `zone_standing` in the C header: 8 and 20 a place, 16 a slot, 8 a row.
+    ///
+    /// ```
+    /// use outliner::{EdgeTable, Refusal, SolventBuilder};
+    /// # let hexagons = [0x8001fffffffffff, 0x8003fffffffffff];
+    /// # let edges = (1..=6).flat_map(|side| hexagons.map(|cell| cell + (1 << 59) + (side << 56))).collect();
+    /// # let table = EdgeTable::new(edges, (0..12).map(|row| row ^ 1).collect(), vec![1.0; 12]);
+    /// let solvent = SolventBuilder::new().build(&table);
+    /// let mut zone = solvent.open()?;
+    /// zone.offer(hexagons[0])?;
+    /// let kept = zone.to_bytes();
+    ///
+    /// // After a restart the broker sends the cell again.
+    /// let mut zone = solvent.reopen(&kept)?;
+    /// assert_eq!(zone.offer(hexagons[0]), Err(Refusal::DuplicateInput { index: 1 }));
+    /// # Ok::<(), Refusal>(())
+    /// ```
+    #[must_use]
+    pub fn to_bytes(&self) -> Vec<u8> {
+        self.memory.to_bytes()
+    }
 }

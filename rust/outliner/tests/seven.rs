@@ -87,6 +87,34 @@ fn a_zone_shows_what_dissolve_makes_of_its_cells() {
 }
 
 #[test]
+fn a_zone_stands_over_a_restart() {
+    let table = seven();
+    let solvent = SolventBuilder::new().capacity(7).build(&table);
+    let mut zone = solvent.open().expect("the table is good");
+    for cell in &AROUND[..5] {
+        assert_eq!(zone.offer(*cell), Ok(()));
+    }
+    let kept = zone.to_bytes();
+    assert_eq!(kept.len(), 8 + 20 * 7 + 16 * table.rows() + 8 * table.rows());
+    let mut again = solvent.reopen(&kept).expect("the bytes are whole");
+    assert_eq!(again.cells(), zone.cells());
+    // Replays are refused as before, new cells accepted, and both zones show the same.
+    for cell in AROUND {
+        assert_eq!(again.offer(cell), zone.offer(cell));
+        assert_eq!(again.read_out(), zone.read_out());
+    }
+    assert_eq!(again.to_bytes(), zone.to_bytes());
+
+    let (mut marked, mut longer) = (kept.clone(), kept.clone());
+    marked[kept.len() - 1] = 1;
+    longer.push(0);
+    assert_eq!(solvent.reopen(&marked).err(), Some(Refusal::BrokenState));
+    for bytes in [&kept[1..], &longer, &[]] {
+        assert_eq!(solvent.reopen(bytes).err(), Some(Refusal::BadLengths));
+    }
+}
+
+#[test]
 fn refusals_name_what_is_wrong() {
     let table = seven();
     let solvent = SolventBuilder::new().capacity(3).build(&table);

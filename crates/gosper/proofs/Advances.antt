@@ -24,11 +24,11 @@ use Rattle.scope.proofs.Odometer.{Fine, move-fine, move-after}
 use Rattle.scope.proofs.LevelRuns.{move-other}
 use Rattle.scope.proofs.EdgeDigits.{edge-head, edge-digit, edge-again}
 use Rattle.gosper.specs.declared.Gosper.{Gosper}
-use Rattle.gosper.specs.declared.levels.Written.{Written}
-use Rattle.gosper.specs.Levels.{withDigit, written, DigitSet, Levels, Leaves, overFinest}
+use Rattle.walk_levels.specs.declared.Written.{Written}
+use Rattle.walk_levels.specs.Levels.{withDigit, written, DigitSet, Levels, Leaves, overFinest}
 use Rattle.gosper.specs.Walking.{walkOf, turned, gosperAt, Walking}
-use Rattle.gosper.proofs.OneDigit.{old-le}
-use Rattle.gosper.proofs.LevelLaws.{writtenDigit}
+use Rattle.walk_levels.proofs.OneDigit.{old-le}
+use Rattle.walk_levels.proofs.LevelLaws.{writtenDigit}
 use Rattle.gosper.proofs.Walkings.{at-again}
 
 -- a digit of an edge is written where a position is set

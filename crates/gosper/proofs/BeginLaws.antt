@@ -22,9 +22,10 @@ use Rattle.scope.proofs.WalkCounts.{after, facing, outline-coarser, outline-hex
 use Rattle.scope.proofs.Sixths.{first-sixth}
 use Rattle.scope.proofs.EdgeDigits.{edges-again}
 use Rattle.gosper.specs.declared.Gosper.{Gosper}
-use Rattle.gosper.specs.Walking.{walkOf, gosperAt, Walking, rest, startPosition, startWalk, Starts, begun, Begins}
+use Rattle.walk_levels.specs.Starts.{startPosition, startWalk, Starts}
+use Rattle.gosper.specs.Walking.{walkOf, gosperAt, Walking, rest, begun, Begins}
 use Rattle.gosper.proofs.Walkings.{walk-at, walking-at}
-use Rattle.gosper.proofs.StartLaws.{start-own, start-fine}
+use Rattle.walk_levels.proofs.StartLaws.{start-own, start-fine}
 
 -- ---- the walks of scope that the starts are
 

@@ -1,3 +1,2 @@
 -- What the walk's state stands for, and what its functions promise.
-pub mod Levels
 pub mod Walking

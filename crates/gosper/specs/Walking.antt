@@ -5,11 +5,12 @@ use mathlib.Core.Bool.{Bool, true, false, _&&_, cond}
 use mathlib.Core.List.{List, _∷_}
 use Prim.Native.Nat.{ℕ, _+_, _-_, _*_, _%_, _^_, _<_, _≤_}
 use lib.Dec.{leb, ltb}
-use lib.ListN.{set, replicate}
-use Rattle.scope.specs.Lists.{at, tabulate}
-use Rattle.scope.specs.Cells.{resolutionOf, validCell, isPentagon}
-use Rattle.scope.specs.Walk.{Walk, nextEdgePosition, edgeAt, edges, step, outline, firstPosition}
+use lib.ListN.{set}
+use Rattle.scope.specs.Lists.{at}
+use Rattle.scope.specs.Cells.{resolutionOf, isPentagon}
+use Rattle.scope.specs.Walk.{Walk, nextEdgePosition, edgeAt, edges, step, outline}
 use Rattle.scope.proofs.Odometer.{Fine}
+use Rattle.walk_levels.specs.Starts.{startWalk}
 use Rattle.gosper.specs.declared.Gosper.{Gosper}
 use Rattle.gosper.specs.declared.Stepped.{Stepped}
 
@@ -61,29 +62,6 @@ rest g =
     cond (g .skips) (x ∷ edges false x c t (n - 1) (step c t (step c t w))) (edges false x c t n w)
 
 -- ---- the start
-
--- The position of level r at the start of a walk that begins k sides on: 3 positions a side.
-abbrev pub startPosition : ℕ → ℕ → ℕ → ℕ
-startPosition k c r = (firstPosition c r + 3 * k) % 18
-
-unfoldable pub startWalk : ℕ → ℕ → ℕ → Walk
-startWalk k c t =
-    record {
-      positions = tabulate (λ r. cond (ltb c r && leb r t) (startPosition k c r) 0) 16;
-      edgePosition = k;
-    }
-
-pub record StartAsks (ps : List ℕ) (x c t k : ℕ) : Type 0 where
-  pub cleared : ps ≡ replicate 16 0
-  pub valid : validCell x ≡ true
-  pub own : c ≡ resolutionOf x
-  pub down : c ≤ t
-  pub deep : t ≤ 15
-  pub past : k < 2
-
-pub record Starts (ps : List ℕ) (x c t k e : ℕ) : Type 0 where
-  pub positions : ps ≡ startWalk k c t .positions
-  pub edge : e ≡ edgeAt x c t (startWalk k c t)
 
 -- A hexagon begins at the first walk, and so does a pentagon at its own resolution, where it passes over its second step.
 -- A pentagon's outline below its resolution begins one side on.

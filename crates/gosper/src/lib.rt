@@ -5,24 +5,22 @@
 // where the Rust steps up to there; so no later step is passed over but the one at delta 0. And the finest
 // level's position, which moves at every step, stands beside the array: the array is written at every third
 // step only, so that copies of the state by value cost little.
-mod levels;
-mod start;
-
-use levels::edge_direction;
-use levels::next_edge;
-use levels::next_position;
-use levels::set_digit;
-use levels::settle;
-use levels::walk_digit;
-use start::edge_count;
-use start::start_levels;
+use walk_levels::edge_direction;
+use walk_levels::next_edge;
+use walk_levels::next_position;
+use walk_levels::set_digit;
+use walk_levels::settle;
+use walk_levels::start::edge_count;
+use walk_levels::start::start_levels;
+use walk_levels::walk_digit;
 ghost use mathlib.Core.Path.{_≡_};
 ghost use mathlib.Core.Bool.{true};
 ghost use Prim.Native.Nat.{_<_, _≤_};
 ghost use lib.ListN.{length};
 ghost use Rattle.scope.specs.Cells.{resolutionOf, validCell};
 ghost use Rattle.scope.specs.Walk.{step};
-ghost use Rattle.gosper.specs.Walking.{walkOf, turned, nextWalk, gosperAt, movedTo, Walking, rest, startWalk, Begins, Steps};
+ghost use Rattle.walk_levels.specs.Starts.{startWalk};
+ghost use Rattle.gosper.specs.Walking.{walkOf, turned, nextWalk, gosperAt, movedTo, Walking, rest, Begins, Steps};
 
 pub struct Gosper {
     // The next edge, and how many are left.

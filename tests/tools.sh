@@ -74,7 +74,6 @@ seq 1 16385 | sed 's/.*/8928308280fffff/' >"$work/many.cells"
 
 # ---- outline
 
-usage='outline: a TABLE and a CELLS file are wanted; outline --help says more'
 same crates/outline/stdout bin/outline crates/outline/data/city.table crates/outline/data/zone.cells
 tells 'polygons 2' bin/outline "$table" "$zone"
 tells 'rings 3' bin/outline --mode even "$table" "$zone"
@@ -86,13 +85,50 @@ tells 'cells 1' bin/outline "$table" "$work/marked.cells"
 tells '    296' bin/outline --rows "$table" samples/market.cells
 tells 'cells 2' bin/outline "$table" "$work/good.cells"
 tells 'nothing: the list has no cells' bin/outline "$table" "$work/empty"
-tells 'outline TABLE CELLS [--mode even|mixed] [--rows]' bin/outline --help
-refused "$usage" bin/outline
-refused "$usage" bin/outline "$table"
-refused 'outline: c is one file too many; outline --help says more' bin/outline a b c
-refused 'outline: --colour is no option; outline --help says more' bin/outline --colour "$table" "$zone"
-refused 'outline: after --mode comes even or mixed; outline --help says more' bin/outline "$table" "$zone" --mode
-refused 'outline: odd is no mode, which is even or mixed; outline --help says more' bin/outline "$table" "$zone" --mode odd
+refused 'outline: --mode is the last argument, and even or mixed has to follow; outline --help says more' bin/outline "$table" "$zone" --mode
+refused 'outline: argument 4, odd, is no mode, which is even or mixed; outline --help says more' bin/outline "$table" "$zone" --mode odd
+refused 'outline: argument 2, --rows, is no mode, which is even or mixed; outline --help says more' bin/outline --mode --rows "$table" "$zone"
+
+# ---- command lines, the same way for all: the tool, what it wants, its use, and a word too many where there can be one
+
+longer=$(head -c 70000 /dev/zero | tr '\0' x)
+long=${longer:0:4097}
+longest=${longer:0:4096}
+
+# taken NAME COMMAND...: the name is taken as a file's, of which there is none
+taken() {
+  local name=$1
+  shift
+  run "$@"
+  [ "$status" -eq 1 ] && [ ! -s "$work/out" ] && [ "$(wc -l <"$work/err")" -eq 1 ] && [[ $(cat "$work/err") == "$name: "* ]] || fault "$*"
+}
+
+command_lines() {
+  local tool=$1 wanted=$2 usage="usage: $1 $3" more="; $1 --help says more"
+  shift 3
+  wanted="$tool: $wanted are wanted$more"
+  refused "$wanted" bin/$tool
+  refused "$wanted" bin/$tool "$table"
+  refused "$tool: argument 1 is empty$more" bin/$tool '' "$zone"
+  refused "$tool: argument 2 is empty$more" bin/$tool "$table" ''
+  refused "$tool: argument 2 is longer than 4096 bytes$more" bin/$tool "$table" "$long"
+  refused "$tool: argument 2 is longer than 4096 bytes$more" bin/$tool "$table" "$longer"
+  taken "$longest" bin/$tool "$table" "$longest"
+  refused "$tool: argument 1, --colour, is no option (a file of that name is given as ./--colour)$more" bin/$tool --colour "$table" "$zone"
+  refused "$tool: argument 3, -, is no option (a file of that name is given as ./-)$more" bin/$tool "$table" "$zone" - ''
+  taken ./-none bin/$tool ./-none "$zone"
+  tells "$usage" bin/$tool --help
+  tells "$usage" bin/$tool "$table" "$zone" --help
+  tells "$usage" bin/$tool --colour '' "$long" --help "$table"
+  [ $# -eq 0 ] || refused "$tool: argument 3, $1, is one file too many$more" bin/$tool "$table" "$zone" "$1" "$zone"
+}
+
+command_lines outline 'a TABLE and a CELLS file' 'TABLE CELLS [--mode even|mixed] [--rows]' more.cells
+command_lines till_import 'a TABLE and one CELLS file or more' 'TABLE CELLS...'
+command_lines year_audit 'a TABLE and a FEED file' 'TABLE FEED' even
+for tool in till_import year_audit; do
+  refused "$tool: argument 1, --rows, is no option (a file of that name is given as ./--rows); $tool --help says more" bin/$tool --rows "$table" "$zone"
+done
 
 # ---- an answer that cannot be written is not lost without a word
 
@@ -133,10 +169,6 @@ done
 
 # ---- till_import: a zone that cannot be taken leaves the others alone
 
-usage='till_import: a TABLE and one CELLS file or more are wanted; till_import --help says more'
-tells 'till_import TABLE CELLS...' bin/till_import --help
-refused "$usage" bin/till_import
-refused "$usage" bin/till_import "$table"
 tells "$work/empty: nothing, the list has no cells" bin/till_import "$table" "$work/empty"
 bin/till_import "$table" samples/streets.cells samples/market.cells >"$work/both"
 run bin/till_import "$table" samples/streets.cells "$work/twice.cells" "$work/none" samples/market.cells
@@ -144,13 +176,8 @@ run bin/till_import "$table" samples/streets.cells "$work/twice.cells" "$work/no
 
 # ---- year_audit
 
-usage='year_audit: a TABLE and a FEED file are wanted; year_audit --help says more'
 same crates/year_audit/stdout bin/year_audit "$table" samples/year.feed
 tells 'points over 0' bin/year_audit "$table" samples/year.feed
-tells 'year_audit TABLE FEED' bin/year_audit --help
-refused "$usage" bin/year_audit
-refused "$usage" bin/year_audit "$table"
-refused "$usage" bin/year_audit "$table" samples/year.feed "$zone"
 tells 'standing outline: nothing, no cell is held' bin/year_audit "$table" "$work/empty"
 tells 'refused by 3: 1, this cell is there already, or lies under another' bin/year_audit "$table" "$work/twice.cells"
 tells 'refused by 4: 1, this cell'"'"'s resolution does not fit the table' bin/year_audit "$table" "$work/coarse.cells"

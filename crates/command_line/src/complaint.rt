@@ -19,7 +19,11 @@ fn put_misplaced(out: &mut [u8], at: usize, mode: usize, word: &[u8]) -> usize
         return put_bytes(out, at, b" is no mode, which is even or mixed");
     }
     if first_byte(word) == b'-' {
-        let told = put_bytes(out, at, b" is no option (a file of that name is given as ./");
+        let told = put_bytes(
+            out,
+            at,
+            b" is no option (a file of that name is given as ./",
+        );
         let named = put_bytes(out, told, word);
         return put_bytes(out, named, b")");
     }
@@ -102,7 +106,11 @@ pub fn put_complaint(
         }
         Status::ModeWanted => {
             let begun = put_begin(out, at, tool);
-            let told = put_bytes(out, begun, b"--mode is the last argument, and even or mixed has to follow");
+            let told = put_bytes(
+                out,
+                begun,
+                b"--mode is the last argument, and even or mixed has to follow",
+            );
             put_end(out, told, tool)
         }
         Status::FilesWanted => {

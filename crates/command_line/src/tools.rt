@@ -13,7 +13,7 @@ pub enum Tool {
 }
 
 // Whether it has options beside --help.
-pub fn takes_options(tool: Tool) -> bool
+pub(crate) fn takes_options(tool: Tool) -> bool
     ensures { λ r. ⌜ r ≡ takesOptions tool ⌝ }
 {
     match tool {
@@ -24,7 +24,7 @@ pub fn takes_options(tool: Tool) -> bool
 }
 
 // Whether it takes more than one list.
-pub fn takes_many(tool: Tool) -> bool
+pub(crate) fn takes_many(tool: Tool) -> bool
     ensures { λ r. ⌜ r ≡ takesMany tool ⌝ }
 {
     match tool {
@@ -34,7 +34,7 @@ pub fn takes_many(tool: Tool) -> bool
     }
 }
 
-pub fn put_name(out: &mut [u8], at: usize, tool: Tool) -> usize
+pub(crate) fn put_name(out: &mut [u8], at: usize, tool: Tool) -> usize
     requires { ⌜ at ≤ length (now out) ⌝ }
     ensures { λ r. ⌜ Wrote (now (out .entry)) at (now (out .exit)) r (nameText tool) ⌝ }
 {

@@ -38,10 +38,11 @@ module _ {table before : List ℕ} {found verdict : Verdict} (e : found ≡ verd
 
 pub table-one : (table : List ℕ) (verdict : Verdict) (before : List ℕ) {after after′ : List ℕ} {r r′ : Report}
     → TableTold table verdict before after r → TableTold table verdict before after′ r′ → (after ≡ after′) × (r ≡ r′)
-table-one table verdict before {r = r} {r′ = r′} p q =
-    (p .text .bytes ∙ sym (q .text .bytes),
-    ap (λ (n : ℕ). record { size = n; done = r .done }) (p .text .place ∙ sym (q .text .place))
-    ∙ ap (λ (b : Bool). record { size = r′ .size; done = b }) (p .passes ∙ sym (q .passes)))
+table-one table verdict before {r = r} {r′ = r′} p q = (
+  p .text .bytes ∙ sym (q .text .bytes),
+  ap (λ (n : ℕ). record { size = n; done = r .done }) (p .text .place ∙ sym (q .text .place))
+      ∙ ap (λ (b : Bool). record { size = r′ .size; done = b }) (p .passes ∙ sym (q .passes)),
+)
 
 pub imported : {table list lines edges : List ℕ} {zone : Drawn} {answer : ReadOut} {o : Output} {before after : List ℕ} {told : Told}
     → record { answer = answer; out = o } ≡ zone → Tells table list lines edges answer o before after told → Imported table list lines edges zone o before after told

@@ -5,7 +5,7 @@ mod year;
 
 use arguments::Begun;
 use arguments::begin;
-use command_line::Tool;
+use command_line::tools::Tool;
 use desk::Loaded;
 use desk::arrays::feed_lines;
 use desk::arrays::feed_words;

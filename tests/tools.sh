@@ -144,18 +144,32 @@ done
 
 first_row='the table has fewer than 2 rows or more than 65536, its resolutions are unequal, or this row is no valid edge, is not named back by its reverse row, or has no finite area term'
 later_row='this row (the first is row 0, each has 20 bytes) is no valid edge, is out of order, is not named back by its reverse row, or has no finite area term'
+too_long_name=$(printf 'x%.0s' $(seq 1 300))
 for tool in outline till_import year_audit; do
-  refused "$work/none: this file cannot be read" bin/$tool "$work/none" "$zone"
-  refused "$work: this file cannot be read" bin/$tool "$work" "$zone"
+  refused "$work/none: there is no such file" bin/$tool "$work/none" "$zone"
+  refused "$zone/none: there is no such file" bin/$tool "$zone/none" "$zone"
+  refused "$work: this is a directory" bin/$tool "$work" "$zone"
+  refused "$too_long_name: this file cannot be read" bin/$tool "$too_long_name" "$zone"
   refused "$work/long byte 1310720: this file is too long" bin/$tool "$work/long" "$zone"
   refused "$work/cut.table byte 42220: this row is cut off, a row has 20 bytes" bin/$tool "$work/cut.table" "$zone"
   refused "$work/empty row 0: refused 1, $first_row" bin/$tool "$work/empty" "$zone"
   refused "$work/unordered.table row 2112: refused 1, $later_row" bin/$tool "$work/unordered.table" "$zone"
-  refused "$work/none: this file cannot be read" bin/$tool "$table" "$work/none"
+  refused "$work/none: there is no such file" bin/$tool "$table" "$work/none"
+  refused "$work: this is a directory" bin/$tool "$table" "$work"
   refused "$work/long byte 1310720: this file is too long" bin/$tool "$table" "$work/long"
   refused "$table line 1, byte 1: a line has one cell, 1 to 16 hexadecimal digits, with or without 0x" bin/$tool "$table" "$table"
   refused "$work/word.cells line 2, byte 1: a line has one cell, 1 to 16 hexadecimal digits, with or without 0x" bin/$tool "$table" "$work/word.cells"
 done
+
+# ---- a file that may not be read, where the tests do not run as root, whom nothing stops
+
+if [ "$(id -u)" -ne 0 ]; then
+  cp "$zone" "$work/locked"
+  chmod 0 "$work/locked"
+  for tool in outline till_import year_audit; do
+    refused "$work/locked: this file may not be read" bin/$tool "$table" "$work/locked"
+  done
+fi
 
 # ---- lists that dissolve refuses, each with the line of the cell
 

@@ -1,11 +1,10 @@
 -- What was loaded lies within the slices that it was loaded into.
 --     bytes-within    a file's bytes
---     rows-within     a table's rows
---     cells-within    a list's cells
+--     rows-few        a table's rows
+--     cells-few       a list's cells
 -- Assumes nothing.
 use Prim.Native.Nat.{ℕ, _%_, _≤_, min}
-use mathlib.Core.Path.{_≡_, refl, sym, _∙_, ap, subst}
-use mathlib.Core.Bool.{Bool, true, false, cond}
+use mathlib.Core.Path.{_≡_, sym, ap, subst}
 use mathlib.Core.List.{List}
 use mathlib.Core.Logic.{⊎-elim}
 use native.Mathlib.Nat.{min-le-left, min-le-right}
@@ -16,37 +15,37 @@ use lib.ListN.{length, take, length-take}
 use Rattle.scope.specs.Table.{Table}
 use Rattle.scope.specs.Bytes.{rowsIn}
 use Rattle.scope.proofs.Tests.{either}
-use Rattle.cell_text.specs.declared.Listed.{Listed}
-use Rattle.cell_text.specs.Lines.{Reading, lines, reading, fitted, cellsIn, withoutMark, cellsOf, Stored}
-use Rattle.table_bytes.specs.declared.TableFile.{TableFile}
-use Rattle.table_bytes.specs.declared.TableFile.the-variants as file
-use Rattle.table_bytes.specs.Files.{fileOf, roomOf, TableRead}
+use Rattle.cell_text.specs.declared.Ending.{Ending}
+use Rattle.cell_text.specs.declared.Ending.the-variants as ending
+use Rattle.cell_text.specs.Lines.{Reading, lines, reading, fitted, cellsIn, withoutMark, cellsOf}
+use Rattle.table_bytes.specs.Files.{fileOf, roomOf}
 use Rattle.files.specs.declared.FileRead.{FileRead}
 use Rattle.files.specs.declared.FileRead.the-variants as read
-use Rattle.files.specs.Files.{countOf}
+use Rattle.files.specs.Files.{countOf as bytesRead}
+use Rattle.desk.specs.declared.Loaded.{Loaded}
+use Rattle.desk.specs.Loads.{countOf, Came, whole, none, rowsLoaded, TableLoad, tableLoaded, LoadsTable, cellsLoaded, CellLoad, listLoaded, LoadsCells}
 
-pub bytes-within : {r : FileRead} {n m : ℕ} → r ≡ read.Bytes n → countOf r ≤ m → n ≤ m
-bytes-within {m = m} e h = subst (λ (r : FileRead). countOf r ≤ m) e h
+pub bytes-within : {r : FileRead} {n m : ℕ} → r ≡ read.Bytes n → bytesRead r ≤ m → n ≤ m
+bytes-within {m = m} e h = subst (λ (r : FileRead). bytesRead r ≤ m) e h
 
 -- ---- a table
 
-rowsOf : TableFile → ℕ
-rowsOf (file.Rows n) = n
-rowsOf (file.CutOff place) = 0
-rowsOf file.TooMany = 0
-
-few-rows : (room : ℕ) (b : List ℕ) → rowsOf (fileOf room b) ≤ room
-unfolding rowsOf fileOf
+few-rows : (room : ℕ) (b : List ℕ) → countOf (rowsLoaded (fileOf room b)) ≤ room
+unfolding fileOf
 few-rows room b = ⊎-elim
     (λ e. rw e (⊎-elim (λ l. rw l (leb-true (rowsIn b) room l)) (λ l. rw l (omega arith)) (either (leb (rowsIn b) room))))
     (λ e. rw e (omega arith))
     (either (eqb (length b % 20) 0))
 
-pub rows-within : {b : List ℕ} {t : Table} {r : TableFile} {t′ : Table} {n : ℕ} → TableRead b t r t′ → r ≡ file.Rows n
-    → (n ≤ length (t .edges)) × (n ≤ length (t .reverse)) × (n ≤ length (t .area))
-unfolding rowsOf
-rows-within {b} {t} {n = n} R e =
-    let f : n ≤ roomOf t = subst (λ (r : TableFile). rowsOf r ≤ roomOf t) (sym (R .answer) ∙ e) (few-rows (roomOf t) b) in
+few-loaded : (c : Came) (t : Table) → countOf (tableLoaded c t .answer) ≤ roomOf t
+unfolding tableLoaded
+few-loaded (whole b) t = few-rows (roomOf t) b
+few-loaded none t = omega arith
+
+pub rows-few : {text : List ℕ} {t : Table} {r : Loaded} {t′ : Table} → LoadsTable text t r t′
+    → (countOf r ≤ length (t .edges)) × (countOf r ≤ length (t .reverse)) × (countOf r ≤ length (t .area))
+rows-few {t = t} {r} L =
+    let f : countOf r ≤ roomOf t = subst (λ (x : Loaded). countOf x ≤ roomOf t) (sym (ap (λ (x : TableLoad). x .answer) (L .loads))) (few-loaded (L .came) t) in
     let p = min-le-left (min (length (t .edges)) (length (t .reverse))) (length (t .area)) in
     let q = min-le-right (min (length (t .edges)) (length (t .reverse))) (length (t .area)) in
     let u = min-le-left (length (t .edges)) (length (t .reverse)) in
@@ -62,10 +61,23 @@ few-cells room r = ⊎-elim
     (λ e. rw e (rw (length-take room (r .cells)) (min-le-left room (length (r .cells)))))
     (either (leb (length (r .cells)) room))
 
-pub cells-within : (a b : ℕ) (text : List ℕ) {cells numbers : List ℕ} {answer : Listed} {cells′ numbers′ : List ℕ}
-    → Stored (cellsOf (min a b) text) cells numbers answer cells′ numbers′ → (answer .count ≤ a) × (answer .count ≤ b)
-unfolding cellsOf cellsIn
-cells-within a b text S =
-    let c = S .count in let f = few-cells (min a b) (reading 1 (lines (withoutMark text))) in
-    let p = min-le-left a b in let q = min-le-right a b in
+few-counted : (e : Ending) {n room : ℕ} → n ≤ room → countOf (cellsLoaded e n) ≤ room
+few-counted ending.Whole h = h
+few-counted (ending.Fault line place) h = omega arith
+few-counted (ending.TooMany line) h = omega arith
+
+few-listed : (c : Came) (cells numbers : List ℕ) → countOf (listLoaded c cells numbers .answer) ≤ min (length cells) (length numbers)
+unfolding listLoaded cellsOf cellsIn
+few-listed (whole b) cells numbers =
+    let room = min (length cells) (length numbers) in
+    few-counted (cellsOf room b .end) (few-cells room (reading 1 (lines (withoutMark b))))
+few-listed none cells numbers = omega arith
+
+pub cells-few : {text cells numbers : List ℕ} {r : Loaded} {cells′ numbers′ : List ℕ} → LoadsCells text cells numbers r cells′ numbers′
+    → (countOf r ≤ length cells) × (countOf r ≤ length numbers)
+cells-few {cells = cells} {numbers} {r} L =
+    let room = min (length cells) (length numbers) in
+    let f : countOf r ≤ room = subst (λ (x : Loaded). countOf x ≤ room) (sym (ap (λ (x : CellLoad). x .answer) (L .loads))) (few-listed (L .came) cells numbers) in
+    let p = min-le-left (length cells) (length numbers) in
+    let q = min-le-right (length cells) (length numbers) in
     (omega arith, omega arith)

@@ -1,4 +1,6 @@
--- Laws of loads and texts: the proofs of this crate cite the first, those of the tools the others.
+-- Laws of loads and texts: the proofs of this crate cite the first two, those of the tools Fits, Within and Whole.
+pub mod Loading
 pub mod Fits
 pub mod Within
 pub mod Whole
+pub mod Determined

@@ -16,7 +16,7 @@ pub(crate) fn show_file(read: FileRead) {
         FileRead::Bytes(count) => {
             show_number(b"table of bytes ", count as u64);
         }
-        FileRead::Unreadable => {
+        FileRead::Unreadable(_) => {
             io::write_all(STDOUT_FILENO, b"no table");
         }
         FileRead::TooLong => {

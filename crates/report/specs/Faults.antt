@@ -3,14 +3,23 @@
 use Prim.Native.Nat.{ℕ}
 use mathlib.Core.List.{List, [], _++_}
 use Rattle.text.specs.Text.{ascii}
+use Rattle.files.specs.declared.Reason.{Reason}
+use Rattle.files.specs.declared.Reason.the-variants as reason
 use Rattle.cell_text.specs.declared.Ending.{Ending}
 use Rattle.cell_text.specs.declared.Ending.the-variants as ending
 use Rattle.table_bytes.specs.declared.TableFile.{TableFile}
 use Rattle.table_bytes.specs.declared.TableFile.the-variants as file
 use Rattle.report.specs.Notes.{noted}
 
-abbrev pub unreadableText : List ℕ → List ℕ
-unreadableText name = name ++ ascii ": this file cannot be read\n"
+-- by what the system says of the file
+unfoldable pub unreadableWords : Reason → List ℕ
+unreadableWords reason.Missing = ascii ": there is no such file\n"
+unreadableWords reason.Directory = ascii ": this is a directory\n"
+unreadableWords reason.Forbidden = ascii ": this file may not be read\n"
+unreadableWords reason.Other = ascii ": this file cannot be read\n"
+
+abbrev pub unreadableText : List ℕ → Reason → List ℕ
+unreadableText name why = name ++ unreadableWords why
 
 abbrev pub tooLongText : List ℕ → ℕ → List ℕ
 tooLongText name room = name ++ noted (ascii " byte ") room (ascii ": this file is too long\n")

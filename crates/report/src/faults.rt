@@ -1,19 +1,33 @@
 // Files that cannot be taken, in words.
 use crate::notes::put_noted;
 use cell_text::Ending;
+use files::Reason;
 use table_bytes::TableFile;
 use text::put_bytes;
 ghost use Prim.Native.Nat.{_≤_};
 ghost use lib.ListN.{length};
 ghost use Rattle.text.specs.Text.{Wrote};
-ghost use Rattle.report.specs.Faults.{unreadableText, tooLongText, tableFaultText, listFaultText};
+ghost use Rattle.report.specs.Faults.{unreadableWords, unreadableText, tooLongText, tableFaultText, listFaultText};
 
-pub fn put_unreadable(out: &mut [u8], at: usize, name: &[u8]) -> usize
+// Why a file cannot be read.
+fn put_unreadable_words(out: &mut [u8], at: usize, reason: Reason) -> usize
     requires { ⌜ at ≤ length (now out) ⌝ }
-    ensures { λ r. ⌜ Wrote (now (out .entry)) at (now (out .exit)) r (unreadableText (now (name .entry))) ⌝ }
+    ensures { λ r. ⌜ Wrote (now (out .entry)) at (now (out .exit)) r (unreadableWords reason) ⌝ }
+{
+    match reason {
+        Reason::Missing => put_bytes(out, at, b": there is no such file\n"),
+        Reason::Directory => put_bytes(out, at, b": this is a directory\n"),
+        Reason::Forbidden => put_bytes(out, at, b": this file may not be read\n"),
+        Reason::Other => put_bytes(out, at, b": this file cannot be read\n"),
+    }
+}
+
+pub fn put_unreadable(out: &mut [u8], at: usize, name: &[u8], reason: Reason) -> usize
+    requires { ⌜ at ≤ length (now out) ⌝ }
+    ensures { λ r. ⌜ Wrote (now (out .entry)) at (now (out .exit)) r (unreadableText (now (name .entry)) reason) ⌝ }
 {
     let named = put_bytes(out, at, name);
-    put_bytes(out, named, b": this file cannot be read\n")
+    put_unreadable_words(out, named, reason)
 }
 
 pub fn put_too_long(out: &mut [u8], at: usize, name: &[u8], room: usize) -> usize

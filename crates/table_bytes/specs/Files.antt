@@ -27,7 +27,11 @@ overTable new old = table (over (new .edges) (old .edges)) (over (new .reverse) 
 abbrev pub roomOf : Table → ℕ
 roomOf t = min (min (length (t .edges)) (length (t .reverse))) (length (t .area))
 
--- what the reader promises: the rows where they fit, else what was there
+-- a table's slices after the bytes of a file: its rows where they fit, else what was there
+abbrev pub tableAfter : List ℕ → Table → Table
+tableAfter b t = cond (tableFits (roomOf t) b) (overTable (tableIn b) t) t
+
+-- what the reader promises
 pub record TableRead (b : List ℕ) (t : Table) (r : TableFile) (t′ : Table) : Type 0 where
   pub answer : r ≡ fileOf (roomOf t) b
-  pub left : t′ ≡ cond (tableFits (roomOf t) b) (overTable (tableIn b) t) t
+  pub left : t′ ≡ tableAfter b t

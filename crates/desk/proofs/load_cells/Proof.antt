@@ -1,7 +1,10 @@
--- `desk::load_cells` meets its contract.
+-- `desk::load_cells` meets its contract. By what came of the file.
 -- Assumes nothing.
 use borrow.Author.Needs.{needs}
+use mathlib.Core.Path.{sym}
+use lib.Seq.{length-take-le}
 use Rattle.desk.proofs.Fits.{bytes-within}
+use Rattle.desk.proofs.Loading.{cells-came, cells-none}
 use Rattle.desk.proofs.load_cells.Statement.{statement}
 use Rattle.desk.proofs.load_cells.Tie as tie
 
@@ -11,17 +14,23 @@ read-file-requires c κs = search needs
 enum-known-size : tie.Need-enum-known-size
 enum-known-size c = search needs
 
-take-cells-requires : tie.Need-take-cells-requires
-take-cells-requires c κs = bytes-within (c .before .before .before .before .size .given .1) (c .before .before .before .before .before .before .before .before .read-file .ensures .0)
+slice-reshare-prefix-take-cells : tie.Need-slice-reshare-prefix-take-cells
+slice-reshare-prefix-take-cells c = bytes-within (c .before .size .given .1) (c .before .before .before .before .before .read-file .ensures .0)
 
-enum-told : tie.Need-enum-told
-enum-told c = search needs
+slice-aggregate-take-cells : tie.Need-slice-aggregate-take-cells
+slice-aggregate-take-cells c = sym (length-take-le _ _ (bytes-within (c .before .before .size .given .1) (c .before .before .before .before .before .before .read-file .ensures .0)))
+
+take-cells-requires : tie.Need-take-cells-requires
+take-cells-requires c κs = search needs
+
+enum-known-reason : tie.Need-enum-known-reason
+enum-known-reason c = search needs
 
 complain-unreadable-requires : tie.Need-complain-unreadable-requires
 complain-unreadable-requires c κs = search needs
 
-enum-told-2 : tie.Need-enum-told-2
-enum-told-2 c = search needs
+enum-told : tie.Need-enum-told
+enum-told c = search needs
 
 complain-too-long-requires : tie.Need-complain-too-long-requires
 complain-too-long-requires c κs = search needs
@@ -36,19 +45,19 @@ same-length-3 : tie.Need-same-length-3
 same-length-3 c = search needs
 
 returns : tie.Need-returns
-returns c = search needs
+returns c = cells-came _ _ _ (bytes-within (c .before .before .before .before .before .before .before .before .before .size .given .1) (c .before .before .before .before .before .before .before .before .before .before .before .before .before .read-file .ensures .0)) (c .before .before .before .before .take-cells .ensures)
 
 same-length-4 : tie.Need-same-length-4
 same-length-4 c = search needs
 
 returns-2 : tie.Need-returns-2
-returns-2 c = search needs
+returns-2 c = cells-none _ _ _
 
 same-length-5 : tie.Need-same-length-5
 same-length-5 c = search needs
 
 returns-3 : tie.Need-returns-3
-returns-3 c = search needs
+returns-3 c = cells-none _ _ _
 
 pub load-cells-spec : {M : Type 1} → statement M
 load-cells-spec =
@@ -56,10 +65,12 @@ load-cells-spec =
     (tie.spec
     read-file-requires
     enum-known-size
+    slice-reshare-prefix-take-cells
+    slice-aggregate-take-cells
     take-cells-requires
-    enum-told
+    enum-known-reason
     complain-unreadable-requires
-    enum-told-2
+    enum-told
     complain-too-long-requires
     same-length
     same-length-2

@@ -4,6 +4,7 @@ use native.Mathlib.Omega.{arith}
 use borrow.Author.Needs.{needs}
 use mathlib.Core.Path.{sym}
 use lib.Seq.{length-take-le}
+use Rattle.desk.proofs.Fits.{rows-few, cells-few}
 use Rattle.desk.proofs.Within.{loaded}
 use Rattle.outline.proofs.outline.Statement.{statement}
 use Rattle.outline.proofs.outline.Tie as tie
@@ -75,34 +76,34 @@ slice-aggregate-show : tie.Need-slice-aggregate-show
 slice-aggregate-show c = search needs
 
 array-share-prefix-edges : tie.Need-array-share-prefix-edges
-array-share-prefix-edges c = let load = c .before .before .before .before .before .before .before .before .before .before .before .before .before .before .before .before .before .before .load-table in omega (arith, loaded (c .before .before .before .before .before .before .before .before .before .before .before .before .rows .given .1) (load .ensures .0), load .kept .1 .1 .0)
+array-share-prefix-edges c = let load = c .before .before .before .before .before .before .before .before .before .before .before .before .before .before .before .before .before .before .load-table in omega (arith, loaded (c .before .before .before .before .before .before .before .before .before .before .before .before .rows .given .1) (rows-few (load .ensures) .0), load .kept .1 .1 .0)
 
 slice-aggregate-show-2 : tie.Need-slice-aggregate-show-2
-slice-aggregate-show-2 c = sym (length-take-le _ _ (let load = c .before .before .before .before .before .before .before .before .before .before .before .before .before .before .before .before .before .before .before .load-table in omega (arith, loaded (c .before .before .before .before .before .before .before .before .before .before .before .before .before .rows .given .1) (load .ensures .0), load .kept .1 .1 .0)))
+slice-aggregate-show-2 c = sym (length-take-le _ _ (let load = c .before .before .before .before .before .before .before .before .before .before .before .before .before .before .before .before .before .before .before .load-table in omega (arith, loaded (c .before .before .before .before .before .before .before .before .before .before .before .before .before .rows .given .1) (rows-few (load .ensures) .0), load .kept .1 .1 .0)))
 
 array-share-prefix-reverse : tie.Need-array-share-prefix-reverse
-array-share-prefix-reverse c = let load = c .before .before .before .before .before .before .before .before .before .before .before .before .before .before .before .before .before .before .before .load-table in omega (arith, loaded (c .before .before .before .before .before .before .before .before .before .before .before .before .before .rows .given .1) (load .ensures .1), load .kept .1 .1 .1 .0)
+array-share-prefix-reverse c = let load = c .before .before .before .before .before .before .before .before .before .before .before .before .before .before .before .before .before .before .before .load-table in omega (arith, loaded (c .before .before .before .before .before .before .before .before .before .before .before .before .before .rows .given .1) (rows-few (load .ensures) .1), load .kept .1 .1 .1 .0)
 
 slice-aggregate-show-3 : tie.Need-slice-aggregate-show-3
-slice-aggregate-show-3 c = sym (length-take-le _ _ (let load = c .before .before .before .before .before .before .before .before .before .before .before .before .before .before .before .before .before .before .before .before .load-table in omega (arith, loaded (c .before .before .before .before .before .before .before .before .before .before .before .before .before .before .rows .given .1) (load .ensures .1), load .kept .1 .1 .1 .0)))
+slice-aggregate-show-3 c = sym (length-take-le _ _ (let load = c .before .before .before .before .before .before .before .before .before .before .before .before .before .before .before .before .before .before .before .before .load-table in omega (arith, loaded (c .before .before .before .before .before .before .before .before .before .before .before .before .before .before .rows .given .1) (rows-few (load .ensures) .1), load .kept .1 .1 .1 .0)))
 
 array-share-prefix-area : tie.Need-array-share-prefix-area
-array-share-prefix-area c = let load = c .before .before .before .before .before .before .before .before .before .before .before .before .before .before .before .before .before .before .before .before .load-table in omega (arith, loaded (c .before .before .before .before .before .before .before .before .before .before .before .before .before .before .rows .given .1) (load .ensures .2), load .kept .1 .1 .1 .1 .0)
+array-share-prefix-area c = let load = c .before .before .before .before .before .before .before .before .before .before .before .before .before .before .before .before .before .before .before .before .load-table in omega (arith, loaded (c .before .before .before .before .before .before .before .before .before .before .before .before .before .before .rows .given .1) (rows-few (load .ensures) .2), load .kept .1 .1 .1 .1 .0)
 
 slice-aggregate-show-4 : tie.Need-slice-aggregate-show-4
-slice-aggregate-show-4 c = sym (length-take-le _ _ (let load = c .before .before .before .before .before .before .before .before .before .before .before .before .before .before .before .before .before .before .before .before .before .load-table in omega (arith, loaded (c .before .before .before .before .before .before .before .before .before .before .before .before .before .before .before .rows .given .1) (load .ensures .2), load .kept .1 .1 .1 .1 .0)))
+slice-aggregate-show-4 c = sym (length-take-le _ _ (let load = c .before .before .before .before .before .before .before .before .before .before .before .before .before .before .before .before .before .before .before .before .before .load-table in omega (arith, loaded (c .before .before .before .before .before .before .before .before .before .before .before .before .before .before .before .rows .given .1) (rows-few (load .ensures) .2), load .kept .1 .1 .1 .1 .0)))
 
 array-share-prefix-cells : tie.Need-array-share-prefix-cells
-array-share-prefix-cells c = let load = c .before .before .before .before .before .before .before .before .before .before .load-cells in omega (arith, loaded (c .before .before .before .before .before .count .given .1) (load .ensures .0), load .kept .1 .1 .0)
+array-share-prefix-cells c = let load = c .before .before .before .before .before .before .before .before .before .before .load-cells in omega (arith, loaded (c .before .before .before .before .before .count .given .1) (cells-few (load .ensures) .0), load .kept .1 .1 .0)
 
 slice-aggregate-show-5 : tie.Need-slice-aggregate-show-5
-slice-aggregate-show-5 c = sym (length-take-le _ _ (let load = c .before .before .before .before .before .before .before .before .before .before .before .load-cells in omega (arith, loaded (c .before .before .before .before .before .before .count .given .1) (load .ensures .0), load .kept .1 .1 .0)))
+slice-aggregate-show-5 c = sym (length-take-le _ _ (let load = c .before .before .before .before .before .before .before .before .before .before .before .load-cells in omega (arith, loaded (c .before .before .before .before .before .before .count .given .1) (cells-few (load .ensures) .0), load .kept .1 .1 .0)))
 
 array-share-prefix-lines : tie.Need-array-share-prefix-lines
-array-share-prefix-lines c = let load = c .before .before .before .before .before .before .before .before .before .before .before .load-cells in omega (arith, loaded (c .before .before .before .before .before .before .count .given .1) (load .ensures .1), load .kept .1 .1 .1 .0)
+array-share-prefix-lines c = let load = c .before .before .before .before .before .before .before .before .before .before .before .load-cells in omega (arith, loaded (c .before .before .before .before .before .before .count .given .1) (cells-few (load .ensures) .1), load .kept .1 .1 .1 .0)
 
 slice-aggregate-show-6 : tie.Need-slice-aggregate-show-6
-slice-aggregate-show-6 c = sym (length-take-le _ _ (let load = c .before .before .before .before .before .before .before .before .before .before .before .before .load-cells in omega (arith, loaded (c .before .before .before .before .before .before .before .count .given .1) (load .ensures .1), load .kept .1 .1 .1 .0)))
+slice-aggregate-show-6 c = sym (length-take-le _ _ (let load = c .before .before .before .before .before .before .before .before .before .before .before .before .load-cells in omega (arith, loaded (c .before .before .before .before .before .before .before .count .given .1) (cells-few (load .ensures) .1), load .kept .1 .1 .1 .0)))
 
 show-requires : tie.Need-show-requires
 show-requires c κs = search needs

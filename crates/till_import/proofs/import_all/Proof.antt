@@ -3,6 +3,7 @@
 use borrow.Author.Needs.{needs}
 use mathlib.Core.Path.{sym}
 use lib.Seq.{length-take-le}
+use Rattle.desk.proofs.Fits.{rows-few}
 use Rattle.desk.proofs.Within.{loaded-in}
 use Rattle.till_import.proofs.import_all.Statement.{statement}
 use Rattle.till_import.proofs.import_all.Tie as tie
@@ -47,22 +48,22 @@ slice-aggregate-import-over : tie.Need-slice-aggregate-import-over
 slice-aggregate-import-over c = search needs
 
 array-share-prefix-edges : tie.Need-array-share-prefix-edges
-array-share-prefix-edges c = loaded-in (c .before .before .rows .given .1) (c .before .before .before .before .before .before .before .before .load-table .ensures .0) (c .before .before .before .before .before .before .before .before .load-table .kept .1 .1 .0)
+array-share-prefix-edges c = loaded-in (c .before .before .rows .given .1) (rows-few (c .before .before .before .before .before .before .before .before .load-table .ensures) .0) (c .before .before .before .before .before .before .before .before .load-table .kept .1 .1 .0)
 
 slice-aggregate-import-over-2 : tie.Need-slice-aggregate-import-over-2
-slice-aggregate-import-over-2 c = sym (length-take-le _ _ (loaded-in (c .before .before .before .rows .given .1) (c .before .before .before .before .before .before .before .before .before .load-table .ensures .0) (c .before .before .before .before .before .before .before .before .before .load-table .kept .1 .1 .0)))
+slice-aggregate-import-over-2 c = sym (length-take-le _ _ (loaded-in (c .before .before .before .rows .given .1) (rows-few (c .before .before .before .before .before .before .before .before .before .load-table .ensures) .0) (c .before .before .before .before .before .before .before .before .before .load-table .kept .1 .1 .0)))
 
 array-share-prefix-reverse : tie.Need-array-share-prefix-reverse
-array-share-prefix-reverse c = loaded-in (c .before .before .before .rows .given .1) (c .before .before .before .before .before .before .before .before .before .load-table .ensures .1) (c .before .before .before .before .before .before .before .before .before .load-table .kept .1 .1 .1 .0)
+array-share-prefix-reverse c = loaded-in (c .before .before .before .rows .given .1) (rows-few (c .before .before .before .before .before .before .before .before .before .load-table .ensures) .1) (c .before .before .before .before .before .before .before .before .before .load-table .kept .1 .1 .1 .0)
 
 slice-aggregate-import-over-3 : tie.Need-slice-aggregate-import-over-3
-slice-aggregate-import-over-3 c = sym (length-take-le _ _ (loaded-in (c .before .before .before .before .rows .given .1) (c .before .before .before .before .before .before .before .before .before .before .load-table .ensures .1) (c .before .before .before .before .before .before .before .before .before .before .load-table .kept .1 .1 .1 .0)))
+slice-aggregate-import-over-3 c = sym (length-take-le _ _ (loaded-in (c .before .before .before .before .rows .given .1) (rows-few (c .before .before .before .before .before .before .before .before .before .before .load-table .ensures) .1) (c .before .before .before .before .before .before .before .before .before .before .load-table .kept .1 .1 .1 .0)))
 
 array-share-prefix-area : tie.Need-array-share-prefix-area
-array-share-prefix-area c = loaded-in (c .before .before .before .before .rows .given .1) (c .before .before .before .before .before .before .before .before .before .before .load-table .ensures .2) (c .before .before .before .before .before .before .before .before .before .before .load-table .kept .1 .1 .1 .1 .0)
+array-share-prefix-area c = loaded-in (c .before .before .before .before .rows .given .1) (rows-few (c .before .before .before .before .before .before .before .before .before .before .load-table .ensures) .2) (c .before .before .before .before .before .before .before .before .before .before .load-table .kept .1 .1 .1 .1 .0)
 
 slice-aggregate-import-over-4 : tie.Need-slice-aggregate-import-over-4
-slice-aggregate-import-over-4 c = sym (length-take-le _ _ (loaded-in (c .before .before .before .before .before .rows .given .1) (c .before .before .before .before .before .before .before .before .before .before .before .load-table .ensures .2) (c .before .before .before .before .before .before .before .before .before .before .before .load-table .kept .1 .1 .1 .1 .0)))
+slice-aggregate-import-over-4 c = sym (length-take-le _ _ (loaded-in (c .before .before .before .before .before .rows .given .1) (rows-few (c .before .before .before .before .before .before .before .before .before .before .before .load-table .ensures) .2) (c .before .before .before .before .before .before .before .before .before .before .before .load-table .kept .1 .1 .1 .1 .0)))
 
 import-over-requires : tie.Need-import-over-requires
 import-over-requires c κs = search needs

@@ -3,6 +3,7 @@
 use borrow.Author.Needs.{needs}
 use mathlib.Core.Path.{sym}
 use lib.Seq.{length-take-le}
+use Rattle.desk.proofs.Fits.{cells-few}
 use Rattle.desk.proofs.Within.{loaded-in}
 use Rattle.till_import.proofs.import_file.Statement.{statement}
 use Rattle.till_import.proofs.import_file.Tie as tie
@@ -50,16 +51,16 @@ returns : tie.Need-returns
 returns c = search needs
 
 array-share-prefix-lines : tie.Need-array-share-prefix-lines
-array-share-prefix-lines c = loaded-in (c .before .before .count .given .1) (c .before .before .before .before .before .before .before .before .load-cells .ensures .1) (c .before .before .before .before .before .before .before .before .load-cells .kept .1 .1 .1 .0)
+array-share-prefix-lines c = loaded-in (c .before .before .count .given .1) (cells-few (c .before .before .before .before .before .before .before .before .load-cells .ensures) .1) (c .before .before .before .before .before .before .before .before .load-cells .kept .1 .1 .1 .0)
 
 slice-aggregate-import : tie.Need-slice-aggregate-import
-slice-aggregate-import c = sym (length-take-le _ _ (loaded-in (c .before .before .before .count .given .1) (c .before .before .before .before .before .before .before .before .before .load-cells .ensures .1) (c .before .before .before .before .before .before .before .before .before .load-cells .kept .1 .1 .1 .0)))
+slice-aggregate-import c = sym (length-take-le _ _ (loaded-in (c .before .before .before .count .given .1) (cells-few (c .before .before .before .before .before .before .before .before .before .load-cells .ensures) .1) (c .before .before .before .before .before .before .before .before .before .load-cells .kept .1 .1 .1 .0)))
 
 array-share-prefix-cells : tie.Need-array-share-prefix-cells
-array-share-prefix-cells c = loaded-in (c .before .before .before .count .given .1) (c .before .before .before .before .before .before .before .before .before .load-cells .ensures .0) (c .before .before .before .before .before .before .before .before .before .load-cells .kept .1 .1 .0)
+array-share-prefix-cells c = loaded-in (c .before .before .before .count .given .1) (cells-few (c .before .before .before .before .before .before .before .before .before .load-cells .ensures) .0) (c .before .before .before .before .before .before .before .before .before .load-cells .kept .1 .1 .0)
 
 slice-aggregate-import-2 : tie.Need-slice-aggregate-import-2
-slice-aggregate-import-2 c = sym (length-take-le _ _ (loaded-in (c .before .before .before .before .count .given .1) (c .before .before .before .before .before .before .before .before .before .before .load-cells .ensures .0) (c .before .before .before .before .before .before .before .before .before .before .load-cells .kept .1 .1 .0)))
+slice-aggregate-import-2 c = sym (length-take-le _ _ (loaded-in (c .before .before .before .before .count .given .1) (cells-few (c .before .before .before .before .before .before .before .before .before .before .load-cells .ensures) .0) (c .before .before .before .before .before .before .before .before .before .before .load-cells .kept .1 .1 .0)))
 
 slice-aggregate-import-3 : tie.Need-slice-aggregate-import-3
 slice-aggregate-import-3 c = search needs

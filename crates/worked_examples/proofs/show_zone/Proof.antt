@@ -4,6 +4,7 @@ use native.Mathlib.Omega.{arith}
 use borrow.Author.Needs.{needs}
 use mathlib.Core.Path.{sym}
 use lib.Seq.{length-take-le}
+use Rattle.desk.proofs.Fits.{rows-few}
 use Rattle.worked_examples.proofs.show_zone.Statement.{statement}
 use Rattle.worked_examples.proofs.show_zone.Tie as tie
 
@@ -41,22 +42,22 @@ show-title-requires : tie.Need-show-title-requires
 show-title-requires c κs = search needs
 
 array-share-prefix-edges : tie.Need-array-share-prefix-edges
-array-share-prefix-edges c = search needs
+array-share-prefix-edges c = let load = c .before .before .before .before .before .before .load-table in omega (arith, c .before .rows-of .ensures, rows-few (load .ensures) .0, load .kept .1 .1 .0)
 
 slice-aggregate-show-dissolved : tie.Need-slice-aggregate-show-dissolved
-slice-aggregate-show-dissolved c = sym (length-take-le _ _ (let load = c .before .before .before .before .before .before .before .load-table in omega (arith, c .before .before .rows-of .ensures, load .ensures .0, load .kept .1 .1 .0)))
+slice-aggregate-show-dissolved c = sym (length-take-le _ _ (let load = c .before .before .before .before .before .before .before .load-table in omega (arith, c .before .before .rows-of .ensures, rows-few (load .ensures) .0, load .kept .1 .1 .0)))
 
 array-share-prefix-reverse : tie.Need-array-share-prefix-reverse
-array-share-prefix-reverse c = search needs
+array-share-prefix-reverse c = let load = c .before .before .before .before .before .before .before .load-table in omega (arith, c .before .before .rows-of .ensures, rows-few (load .ensures) .1, load .kept .1 .1 .1 .0)
 
 slice-aggregate-show-dissolved-2 : tie.Need-slice-aggregate-show-dissolved-2
-slice-aggregate-show-dissolved-2 c = sym (length-take-le _ _ (let load = c .before .before .before .before .before .before .before .before .load-table in omega (arith, c .before .before .before .rows-of .ensures, load .ensures .1, load .kept .1 .1 .1 .0)))
+slice-aggregate-show-dissolved-2 c = sym (length-take-le _ _ (let load = c .before .before .before .before .before .before .before .before .load-table in omega (arith, c .before .before .before .rows-of .ensures, rows-few (load .ensures) .1, load .kept .1 .1 .1 .0)))
 
 array-share-prefix-area : tie.Need-array-share-prefix-area
-array-share-prefix-area c = search needs
+array-share-prefix-area c = let load = c .before .before .before .before .before .before .before .before .load-table in omega (arith, c .before .before .before .rows-of .ensures, rows-few (load .ensures) .2, load .kept .1 .1 .1 .1 .0)
 
 slice-aggregate-show-dissolved-3 : tie.Need-slice-aggregate-show-dissolved-3
-slice-aggregate-show-dissolved-3 c = sym (length-take-le _ _ (let load = c .before .before .before .before .before .before .before .before .before .load-table in omega (arith, c .before .before .before .before .rows-of .ensures, load .ensures .2, load .kept .1 .1 .1 .1 .0)))
+slice-aggregate-show-dissolved-3 c = sym (length-take-le _ _ (let load = c .before .before .before .before .before .before .before .before .before .load-table in omega (arith, c .before .before .before .before .rows-of .ensures, rows-few (load .ensures) .2, load .kept .1 .1 .1 .1 .0)))
 
 show-dissolved-requires : tie.Need-show-dissolved-requires
 show-dissolved-requires c κs = search needs

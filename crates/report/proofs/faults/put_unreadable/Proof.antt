@@ -8,24 +8,14 @@ use Rattle.report.proofs.faults.put_unreadable.Tie as tie
 put-bytes-requires : tie.Need-put-bytes-requires
 put-bytes-requires c κs = search needs
 
-slice-aggregate-put-bytes : tie.Need-slice-aggregate-put-bytes
-slice-aggregate-put-bytes c = search needs
-
-put-bytes-requires-2 : tie.Need-put-bytes-requires-2
-put-bytes-requires-2 c κs = search needs
+put-unreadable-words-requires : tie.Need-put-unreadable-words-requires
+put-unreadable-words-requires c κs = search needs
 
 same-length : tie.Need-same-length
 same-length c = search needs
 
 returns : tie.Need-returns
-returns c = wrote-more (c .before .before .before .before .before .before .before .put-bytes .ensures) (c .before .before .put-bytes2 .ensures)
+returns c = wrote-more (c .before .before .before .before .before .before .put-bytes .ensures) (c .before .before .put-unreadable-words .ensures)
 
 pub put-unreadable-spec : {M : Type 1} → statement M
-put-unreadable-spec =
-    tie.close
-    (tie.spec
-    put-bytes-requires
-    slice-aggregate-put-bytes
-    put-bytes-requires-2
-    same-length
-    returns)
+put-unreadable-spec = tie.close (tie.spec put-bytes-requires put-unreadable-words-requires same-length returns)

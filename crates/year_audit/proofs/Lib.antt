@@ -1,3 +1,4 @@
 -- Laws that the proofs of this crate cite.
 pub mod Loading
 pub mod Points
+pub mod Reporting

@@ -1,23 +1,112 @@
-// The audit of a loaded feed with outputs of full size, and what is said of it.
+// The audit of a loaded feed, and the report of what came of it.
 use audit::summary::put_audit;
 use desk::arrays::edge_numbers;
 use desk::arrays::ring_floats;
 use desk::arrays::ring_numbers;
-use desk::words::complain_text;
-use desk::words::say_text;
+use desk::words::Report;
+use desk::words::say_report;
 use feed_audit::audit;
 use report::refusals::put_refusal;
 use scope::ReadOut;
 use scope::Verdict;
 ghost use Prim.Native.Nat.{_≤_, _<_, _^_};
 ghost use lib.ListN.{length};
+ghost use Rattle.scope.specs.Table.{table};
+ghost use Rattle.scope.specs.Memory.{output};
 ghost use Rattle.audit.specs.Feed.{pointsUnchecked};
+ghost use Rattle.feed_audit.specs.Audit.{auditing};
+ghost use Rattle.year_audit.specs.Audits.{auditedText, Told, Reported};
 
-// Audits the feed, and says what came of it.
+// What came of an audit; or that the table was refused, and at which row.
+fn put_audited(
+    table_name: &[u8],
+    text: &mut [u8],
+    opened: Verdict,
+    offered: usize,
+    counts: &[usize],
+    standing: ReadOut,
+    same: bool,
+    visits: usize,
+) -> Report
+    requires { ⌜ pointsUnchecked (now counts) < 2 ^ 64 ⌝ }
+    ensures { λ r. ⌜ Told (auditedText (now («table_name» .entry)) offered opened (now (counts .entry)) standing same visits) opened (now (text .entry)) (now (text .exit)) r ⌝ }
+{
+    match opened {
+        Verdict::Refused(number, index) => {
+            let size = put_refusal(text, 0, table_name, table_name, number, index, 0);
+            Report { size, done: false }
+        }
+        Verdict::Accepted => {
+            let size = put_audit(text, 0, offered, counts, standing, same, visits);
+            Report { size, done: true }
+        }
+    }
+}
+
+// Audits the feed, and writes down what came of it.
+fn report_audit(
+    table_name: &[u8],
+    text: &mut [u8],
+    edges: &[u64],
+    reverse: &[u32],
+    area: &[f64],
+    feed: &[u64],
+    start: &mut [u32],
+    size: &mut [u32],
+    group: &mut [u32],
+    ring_area: &mut [f64],
+    ring_edges: &mut [u32],
+    anew_start: &mut [u32],
+    anew_size: &mut [u32],
+    anew_group: &mut [u32],
+    anew_area: &mut [f64],
+    anew_edges: &mut [u32],
+) -> Report
+    requires { ⌜ length (now feed) ≤ 65536 ⌝ }
+    ensures { λ r. ⌜ Reported (now («table_name» .entry)) (length (now (feed .entry)))
+        (auditing (table (now (edges .entry)) (now (reverse .entry)) (now (area .entry))) (now (feed .entry)) (output (now (start .entry)) (now (size .entry)) (now (group .entry)) (now («ring_area» .entry)) (now («ring_edges» .entry))) (output (now («anew_start» .entry)) (now («anew_size» .entry)) (now («anew_group» .entry)) (now («anew_area» .entry)) (now («anew_edges» .entry))))
+        (now (text .entry)) (now (text .exit)) (output (now (start .exit)) (now (size .exit)) (now (group .exit)) (now («ring_area» .exit)) (now («ring_edges» .exit))) (output (now («anew_start» .exit)) (now («anew_size» .exit)) (now («anew_group» .exit)) (now («anew_area» .exit)) (now («anew_edges» .exit))) r ⌝ }
+{
+    let mut counts = [0usize; 11];
+    let audited = audit(
+        edges,
+        reverse,
+        area,
+        feed,
+        &mut counts,
+        start,
+        size,
+        group,
+        ring_area,
+        ring_edges,
+        anew_start,
+        anew_size,
+        anew_group,
+        anew_area,
+        anew_edges,
+    );
+    let answers = audited.answers;
+    let opened = answers.opened;
+    let standing = answers.standing;
+    let same = audited.same;
+    let visits = audited.visits;
+    put_audited(
+        table_name,
+        text,
+        opened,
+        feed.len(),
+        &counts,
+        standing,
+        same,
+        visits,
+    )
+}
+
+// Audits the feed in outputs of full size, and says what came of it.
 pub(crate) fn audit_feed(table: &[u8], edges: &[u64], reverse: &[u32], area: &[f64], feed: &[u64])
     requires { ⌜ length (now feed) ≤ 65536 ⌝ }
 {
-    let mut counts = [0usize; 11];
+    let mut text = io::large_buffer();
     let mut start = ring_numbers();
     let mut size = ring_numbers();
     let mut group = ring_numbers();
@@ -28,12 +117,13 @@ pub(crate) fn audit_feed(table: &[u8], edges: &[u64], reverse: &[u32], area: &[f
     let mut anew_group = ring_numbers();
     let mut anew_area = ring_floats();
     let mut anew_edges = edge_numbers();
-    let audited = audit(
+    let report = report_audit(
+        table,
+        &mut text,
         edges,
         reverse,
         area,
         feed,
-        &mut counts,
         &mut start,
         &mut size,
         &mut group,
@@ -45,35 +135,5 @@ pub(crate) fn audit_feed(table: &[u8], edges: &[u64], reverse: &[u32], area: &[f
         &mut anew_area,
         &mut anew_edges,
     );
-    let answers = audited.answers;
-    let opened = answers.opened;
-    let standing = answers.standing;
-    let same = audited.same;
-    let visits = audited.visits;
-    say_audited(table, opened, feed.len(), &counts, standing, same, visits);
-}
-
-// What came of it; or that the table was refused, and at which row.
-fn say_audited(
-    table: &[u8],
-    opened: Verdict,
-    offered: usize,
-    counts: &[usize],
-    standing: ReadOut,
-    same: bool,
-    visits: usize,
-)
-    requires { ⌜ pointsUnchecked (now counts) < 2 ^ 64 ⌝ }
-{
-    let mut text = io::large_buffer();
-    match opened {
-        Verdict::Refused(number, index) => {
-            let size = put_refusal(&mut text, 0, table, table, number, index, 0);
-            complain_text(&text, size);
-        }
-        Verdict::Accepted => {
-            let size = put_audit(&mut text, 0, offered, counts, standing, same, visits);
-            say_text(&text, size);
-        }
-    }
+    say_report(&text, report);
 }

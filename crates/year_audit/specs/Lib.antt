@@ -1,0 +1,2 @@
+-- What is printed of an audit.
+pub mod Audits

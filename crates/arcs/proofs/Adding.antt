@@ -19,7 +19,7 @@ use Rattle.scope.proofs.Puts.{putAll-length}
 use Rattle.scope.proofs.Placed.{slots-fresh, slots-free, slots-in}
 use Rattle.scope.proofs.Sound.{sound-table, offered-outline, offered-room}
 use Rattle.scope.proofs.Taking.{placedFor, offered-many, sound-forest}
-use Rattle.arcs.specs.Search.{Flags}
+use Rattle.free_slots.specs.Search.{Flags}
 use Rattle.arcs.specs.Place.{freeIn, slotsAt}
 use Rattle.arcs.specs.Cancel.{pool}
 use Rattle.arcs.specs.CancelRows.{reverses, CancelAsks, RowsCancelled}
@@ -36,14 +36,14 @@ not-none (a ∷ l) v i z = ⊎-elim
     (λ (k : List·Memᴰ v (map suc l)). not-none l v k z)
     (List·Memᴰ·cases-cons i)
 
-module _ {t : Table} {m : Memory} {full : List ℕ} {x : ℕ} {o : List ℕ} (A : AddAsks t m full x o) where
+module _ {t : Table} {m : Memory} {vacant : List ℕ} {x : ℕ} {o : List ℕ} (A : AddAsks t m vacant x o) where
   pub hold-asks : HoldAsks (m .head) (m .cells) (m .parent) (m .rank)
   hold-asks =
       let l = A .offered .sound .lengths in
       let f = l .most-places in
       record { two = l .head; room = offered-room (A .offered); forest = sound-forest (A .offered); even = l .parent; fits = omega arith }
 
-  pub outline-asks : {place : ℕ} → place ≡ at (m .head) 1 → OutlineAsks (m .slotRow) (m .slotCell) (m .prev) (m .next) (m .rowSlot) full o place
+  pub outline-asks : {place : ℕ} → place ≡ at (m .head) 1 → OutlineAsks (m .slotRow) (m .slotCell) (m .prev) (m .next) (m .rowSlot) vacant o place
   unfolding freeSlots
   outline-asks {place} e =
       let l = A .offered .sound .lengths in
@@ -70,9 +70,9 @@ module _ {t : Table} {m : Memory} {full : List ℕ} {x : ℕ} {o : List ℕ} (A 
 
   -- ---- the cell and its outline
 
-  module _ {place : ℕ} {head′ cells′ parent′ rank′ slotRow′ slotCell′ prev′ next′ rowSlot′ full′ : List ℕ}
+  module _ {place : ℕ} {head′ cells′ parent′ rank′ slotRow′ slotCell′ prev′ next′ rowSlot′ vacant′ : List ℕ}
       (H : CellHeld (m .head) (m .cells) (m .parent) (m .rank) x place head′ cells′ parent′ rank′)
-      (P : OutlinePlaced (m .slotRow) (m .slotCell) (m .prev) (m .next) (m .rowSlot) o place slotRow′ slotCell′ prev′ next′ rowSlot′ full′) where
+      (P : OutlinePlaced (m .slotRow) (m .slotCell) (m .prev) (m .next) (m .rowSlot) o place slotRow′ slotCell′ prev′ next′ rowSlot′ vacant′) where
     -- the state that they leave
     abbrev pub between : Memory
     between = memory head′ cells′ parent′ rank′ (m .cellMark) slotRow′ slotCell′ prev′ next′ rowSlot′ (m .rowMark)
@@ -109,8 +109,8 @@ module _ {t : Table} {m : Memory} {full : List ℕ} {x : ℕ} {o : List ℕ} (A 
 
     -- ALL OF IT
     pub added : {pairs : ℕ} (c : Memory) → RowsCancelled (reverses (t .reverse)) (pool parent′ rank′ slotRow′ slotCell′ prev′ next′ rowSlot′) (place + 1) o pairs c
-        → {full″ : List ℕ} → Flags full″ (c .slotRow)
-        → Added t m x pairs (memory head′ cells′ (c .parent) (c .rank) (m .cellMark) (c .slotRow) (c .slotCell) (c .prev) (c .next) (c .rowSlot) (m .rowMark)) full″
+        → {vacant″ : List ℕ} → Flags vacant″ (c .slotRow)
+        → Added t m x pairs (memory head′ cells′ (c .parent) (c .rank) (m .cellMark) (c .slotRow) (c .slotCell) (c .prev) (c .next) (c .rowSlot) (m .rowMark)) vacant″
     unfolding taking freeSlots
     added c D F = record {
       left = cancelled-same t between (slotsAt rowSlot′ o) (A .offered .sound .lengths .reverse) c (D .left)

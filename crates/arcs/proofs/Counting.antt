@@ -19,7 +19,7 @@ use Rattle.scope.proofs.Tests.{either}
 use Rattle.scope.proofs.Members.{Fresh}
 use Rattle.scope.proofs.Sums.{total-change}
 use Rattle.scope.proofs.PoolCount.{count-both}
-use Rattle.arcs.specs.Search.{usedIn}
+use Rattle.free_slots.specs.Search.{usedIn}
 use Rattle.arcs.specs.Place.{freeIn}
 use Rattle.arcs.specs.Cancel.{clearTwo}
 

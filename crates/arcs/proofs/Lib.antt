@@ -1,9 +1,7 @@
 -- The laws behind the functions of this crate, over plain lists, in the order of their use.
 -- Opening.
 pub mod Opening
--- Placing an outline: the search for a slot, the rows, the links, both together.
-pub mod Searching
-pub mod Blocks
+-- Placing an outline: the rows, the links, both together.
 pub mod Placing
 pub mod Linking
 pub mod PlacedSlots
@@ -19,7 +17,6 @@ pub mod After
 pub mod Cancelling
 pub mod Skipping
 pub mod Clearing
-pub mod Unflagging
 pub mod Pairing
 pub mod Cancelled
 pub mod RowsMet

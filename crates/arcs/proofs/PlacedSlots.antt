@@ -13,14 +13,14 @@ use lib.Seq.{ext-getD}
 use Rattle.scope.specs.Lists.{at, putAll}
 use Rattle.scope.proofs.Members.{mem-at, mem-below}
 use Rattle.scope.proofs.Puts.{putAll-length, putAll-at, mem-take}
-use Rattle.arcs.specs.Search.{usedIn}
+use Rattle.free_slots.specs.Search.{usedIn}
 use Rattle.arcs.specs.Place.{freeIn, slotsIn, slotsAt, PlacedRows, LinkAsks, LinkedRows}
 use Rattle.union_find.specs.Contracts.{AddAsks, Added}
 use Rattle.arcs.specs.Taking.{HoldAsks, CellHeld, OutlineAsks, OutlinePlaced}
 use Rattle.arcs.proofs.Placing.{map-at, slots-many}
 use Rattle.arcs.proofs.Linking.{slots-at}
 
-module _ {slotRow slotCell prev next rowSlot full o : List ℕ} {place : ℕ} (A : OutlineAsks slotRow slotCell prev next rowSlot full o place) where
+module _ {slotRow slotCell prev next rowSlot vacant o : List ℕ} {place : ℕ} (A : OutlineAsks slotRow slotCell prev next rowSlot vacant o place) where
   many : length (slotsIn slotRow o) ≡ length o
   many = slots-many (A .placing)
 
@@ -36,7 +36,7 @@ module _ {slotRow slotCell prev next rowSlot full o : List ℕ} {place : ℕ} (A
       (λ i h. let l : i < length o = rw (length-map o _) at h in
       slots-at (putAll o (map suc (slotsIn slotRow o)) rowSlot) o i l ∙ ap (λ (k : ℕ). k - 1) (given i l) ∙ omega arith)
 
-  module _ {slotRow′ slotCell′ rowSlot′ full′ : List ℕ} (P : PlacedRows slotRow slotCell rowSlot o place slotRow′ slotCell′ rowSlot′ full′) where
+  module _ {slotRow′ slotCell′ rowSlot′ vacant′ : List ℕ} (P : PlacedRows slotRow slotCell rowSlot o place slotRow′ slotCell′ rowSlot′ vacant′) where
     pub link-asks : LinkAsks prev next rowSlot′ o
     link-asks =
         let n = A .even-next in
@@ -49,7 +49,7 @@ module _ {slotRow slotCell prev next rowSlot full o : List ℕ} {place : ℕ} (A
         })
 
     pub outline-done : {prev′ next′ : List ℕ} → LinkedRows prev next rowSlot′ o prev′ next′
-        → OutlinePlaced slotRow slotCell prev next rowSlot o place slotRow′ slotCell′ prev′ next′ rowSlot′ full′
+        → OutlinePlaced slotRow slotCell prev next rowSlot o place slotRow′ slotCell′ prev′ next′ rowSlot′ vacant′
     outline-done L =
         let s : slotsAt rowSlot′ o ≡ slotsIn slotRow o = rw (P .slots) slots-given in
         record {

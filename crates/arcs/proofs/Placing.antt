@@ -14,9 +14,9 @@ use lib.Seq.{length-take-le, drop-cons, getD-set-same, getD-set-other}
 use Rattle.scope.specs.Lists.{at, putAll}
 use Rattle.scope.proofs.Stores.{putAll-step, passing, below-passing, passing-next}
 use Rattle.scope.proofs.Members.{cases}
-use Rattle.arcs.proofs.Searching.{from-same}
-use Rattle.arcs.proofs.Blocks.{below-used}
-use Rattle.arcs.specs.Search.{usedIn, freeFrom, Flags, SearchAsks, Searched}
+use Rattle.free_slots.proofs.Searching.{from-same}
+use Rattle.free_slots.proofs.Flagged.{below-used}
+use Rattle.free_slots.specs.Search.{usedIn, freeFrom, Flags, SearchAsks, Searched}
 use Rattle.arcs.specs.Place.{freeIn, slotsIn, PlaceAsks, PlacedRows}
 
 -- ---- the loop
@@ -38,14 +38,7 @@ used-set rows s k v h u z = cases k s
     (λ e. let r : at (set rows s (v + 1)) k ≡ v + 1 = ap (at (set rows s (v + 1))) e ∙ getD-set-same rows s (v + 1) 0 h in omega arith)
     (λ d. u d (sym (getD-set-other rows s k (v + 1) 0 d) ∙ z))
 
-flags-set : {full rows : List ℕ} {s : ℕ} (v : ℕ) → s < length rows → Flags full rows → Flags full (set rows s (v + 1))
-flags-set {rows = rows} {s} v h F = record {
-  room = rw length-set (F .room);
-  few = F .few;
-  unset = λ k g z. F .unset k (rw length-set at g) (cases (at rows k) 0 (λ e. e) (λ u. absurd (used-set rows s k v h (λ d. u) z)));
-}
-
-pub record Placing (slotRow slotCell rowSlot full o : List ℕ) (n i start : ℕ) (slotRow′ slotCell′ rowSlot′ full′ : List ℕ) : Type 0 where
+pub record Placing (slotRow slotCell rowSlot vacant o : List ℕ) (n i start : ℕ) (slotRow′ slotCell′ rowSlot′ vacant′ : List ℕ) : Type 0 where
   pub within : i ≤ length o
   pub cursor : start ≤ length slotRow
   -- the free slots from the cursor on are those that the edges left will take
@@ -53,20 +46,20 @@ pub record Placing (slotRow slotCell rowSlot full o : List ℕ) (n i start : ℕ
   pub same : (s : ℕ) → start ≤ s → at slotRow′ s ≡ at slotRow s
   -- no slot below it is free
   pub packed : (s : ℕ) → s < start → at slotRow′ s ≢ 0
-  pub flags : Flags full′ slotRow′
+  pub flags : Flags vacant′ slotRow′
   pub rows : putAll (drop i (slotsIn slotRow o)) (drop i (map suc o)) slotRow′ ≡ putAll (slotsIn slotRow o) (map suc o) slotRow
   pub cells : putAll (drop i (slotsIn slotRow o)) (drop i (replicate (length o) n)) slotCell′ ≡ putAll (slotsIn slotRow o) (replicate (length o) n) slotCell
   pub slots : putAll (drop i o) (drop i (map suc (slotsIn slotRow o))) rowSlot′ ≡ putAll o (map suc (slotsIn slotRow o)) rowSlot
   pub long-rows : length slotRow′ ≡ length slotRow
   pub long-cells : length slotCell′ ≡ length slotCell
   pub long-slots : length rowSlot′ ≡ length rowSlot
-  pub long-full : length full′ ≡ length full
+  pub long-vacant : length vacant′ ≡ length vacant
 
-module _ {slotRow slotCell rowSlot full o : List ℕ} {n : ℕ} (A : PlaceAsks slotRow slotCell rowSlot full o n) where
+module _ {slotRow slotCell rowSlot vacant o : List ℕ} {n : ℕ} (A : PlaceAsks slotRow slotCell rowSlot vacant o n) where
   pub slots-many : length (slotsIn slotRow o) ≡ length o
   slots-many = length-take-le (length o) (freeIn slotRow) (A .enough)
 
-  pub placing-start : Placing slotRow slotCell rowSlot full o n 0 0 slotRow slotCell rowSlot full
+  pub placing-start : Placing slotRow slotCell rowSlot vacant o n 0 0 slotRow slotCell rowSlot vacant
   placing-start = record {
     within = omega arith;
     cursor = omega arith;
@@ -81,11 +74,11 @@ module _ {slotRow slotCell rowSlot full o : List ℕ} {n : ℕ} (A : PlaceAsks s
     long-rows = refl;
     long-cells = refl;
     long-slots = refl;
-    long-full = refl;
+    long-vacant = refl;
   }
 
-  module _ {i start : ℕ} {slotRow′ slotCell′ rowSlot′ full′ : List ℕ} (P : Placing slotRow slotCell rowSlot full o n i start slotRow′ slotCell′ rowSlot′ full′) where
-    pub placing-end : length o ≤ i → PlacedRows slotRow slotCell rowSlot o n slotRow′ slotCell′ rowSlot′ full′
+  module _ {i start : ℕ} {slotRow′ slotCell′ rowSlot′ vacant′ : List ℕ} (P : Placing slotRow slotCell rowSlot vacant o n i start slotRow′ slotCell′ rowSlot′ vacant′) where
+    pub placing-end : length o ≤ i → PlacedRows slotRow slotCell rowSlot o n slotRow′ slotCell′ rowSlot′ vacant′
     unfolding putAll
     placing-end h =
         let none : drop i (slotsIn slotRow o) ≡ [] =
@@ -127,7 +120,7 @@ module _ {slotRow slotCell rowSlot full o : List ℕ} {n : ℕ} (A : PlaceAsks s
             later = cc;
           }
 
-      pub search-asks : SearchAsks slotRow′ full′ start
+      pub search-asks : SearchAsks slotRow′ vacant′ start
       search-asks =
           let s = placing-slot refl .low in
           let e = P .long-rows in
@@ -157,9 +150,9 @@ module _ {slotRow slotCell rowSlot full o : List ℕ} {n : ℕ} (A : PlaceAsks s
           record { in-row = omega arith; in-cell = omega arith; in-slot = omega arith; row-fits = omega arith; slot-fits = omega arith; cell-fits = A .cells-fit }
 
       -- A TURN: the three stores
-      pub placing-turn : {s row : ℕ} {full″ : List ℕ} → Slot s → Searched slotRow′ start s full″ → length full″ ≡ length full′ → row ≡ at o i → {slotRow″ slotCell″ rowSlot″ : List ℕ}
+      pub placing-turn : {s row : ℕ} {vacant″ : List ℕ} → Slot s → Searched slotRow′ start s vacant″ → length vacant″ ≡ length vacant′ → row ≡ at o i → {slotRow″ slotCell″ rowSlot″ : List ℕ}
           → slotRow″ ≡ set slotRow′ s (row + 1) → slotCell″ ≡ set slotCell′ s n → rowSlot″ ≡ set rowSlot′ row (s + 1)
-          → Placing slotRow slotCell rowSlot full o n (i + 1) (s + 1) slotRow″ slotCell″ rowSlot″ full″
+          → Placing slotRow slotCell rowSlot vacant o n (i + 1) (s + 1) slotRow″ slotCell″ rowSlot″ vacant″
       placing-turn {s} S F long e er ec es =
           let is = S .is in
           let in-pool : s < length slotRow′ = omega (arith, S .low, P .long-rows) in
@@ -169,7 +162,7 @@ module _ {slotRow slotCell rowSlot full o : List ℕ} {n : ℕ} (A : PlaceAsks s
             left = S .later;
             same = λ k l. getD-set-other slotRow′ s k (at o i + 1) 0 (λ e. omega arith) ∙ P .same k (omega (arith, S .high));
             packed = λ k g. used-set slotRow′ s k (at o i) in-pool (λ d. below-used search-asks k (omega (arith, F .found)));
-            flags = flags-set (at o i) in-pool (F .flags);
+            flags = F .flags (at o i + 1) (λ z. omega arith);
             rows = store-next (slotsIn slotRow o) (map suc o) slotRow′ i (rw slots-many h) (rw length-map h) is (add-one (at o i) ∙ sym (map-at o i h)) (P .rows);
             cells = store-next (slotsIn slotRow o) (replicate (length o) n) slotCell′ i (rw slots-many h) (rw length-replicate h) is
                 (sym (getD-replicate (length o) i n 0 h)) (P .cells);
@@ -178,5 +171,5 @@ module _ {slotRow slotCell rowSlot full o : List ℕ} {n : ℕ} (A : PlaceAsks s
             long-rows = length-set slotRow′ s (at o i + 1) ∙ P .long-rows;
             long-cells = length-set slotCell′ s n ∙ P .long-cells;
             long-slots = length-set rowSlot′ (at o i) (suc s) ∙ P .long-slots;
-            long-full = long ∙ P .long-full;
+            long-vacant = long ∙ P .long-vacant;
           })

@@ -6,7 +6,7 @@ use mathlib.Core.List.{List, map}
 use Prim.Native.Nat.{ℕ, suc, _-_, _≤_, _<_, _^_}
 use lib.ListN.{length, take, replicate}
 use Rattle.scope.specs.Lists.{at, below, rotate, putAll}
-use Rattle.arcs.specs.Search.{usedIn, Flags}
+use Rattle.free_slots.specs.Search.{usedIn, Flags}
 
 -- `freeIn` are scope's `freeSlots` of a state with these slot rows, `slotsIn` its `slotsFor`.
 abbrev pub freeIn : List ℕ → List ℕ
@@ -15,21 +15,21 @@ freeIn slotRow = below (λ s. not (usedIn slotRow s)) (length slotRow)
 abbrev pub slotsIn : List ℕ → List ℕ → List ℕ
 slotsIn slotRow o = take (length o) (freeIn slotRow)
 
--- The outline's rows are in the table, enough slots are free, and blocks that are flagged have none. The rest are sizes that fit.
-pub record PlaceAsks (slotRow slotCell rowSlot full o : List ℕ) (n : ℕ) : Type 0 where
+-- The outline's rows are in the table, enough slots are free, and flagged as such. The rest are sizes that fit.
+pub record PlaceAsks (slotRow slotCell rowSlot vacant o : List ℕ) (n : ℕ) : Type 0 where
   pub in-table : (i : ℕ) → i < length o → at o i < length rowSlot
   pub enough : length o ≤ length (freeIn slotRow)
-  pub flags : Flags full slotRow
+  pub flags : Flags vacant slotRow
   pub even : length slotCell ≡ length slotRow
   pub slots-fit : length slotRow < 2 ^ 32
   pub rows-fit : length rowSlot < 2 ^ 32
   pub cells-fit : n < 2 ^ 32
 
-pub record PlacedRows (slotRow slotCell rowSlot o : List ℕ) (n : ℕ) (slotRow′ slotCell′ rowSlot′ full′ : List ℕ) : Type 0 where
+pub record PlacedRows (slotRow slotCell rowSlot o : List ℕ) (n : ℕ) (slotRow′ slotCell′ rowSlot′ vacant′ : List ℕ) : Type 0 where
   pub rows : slotRow′ ≡ putAll (slotsIn slotRow o) (map suc o) slotRow
   pub cells : slotCell′ ≡ putAll (slotsIn slotRow o) (replicate (length o) n) slotCell
   pub slots : rowSlot′ ≡ putAll o (map suc (slotsIn slotRow o)) rowSlot
-  pub flags : Flags full′ slotRow′
+  pub flags : Flags vacant′ slotRow′
 
 -- The slots of rows that have one.
 abbrev pub slotsAt : List ℕ → List ℕ → List ℕ

@@ -11,7 +11,7 @@ use Rattle.scope.specs.Pool.{freeSlots, taking}
 use Rattle.scope.proofs.Members.{Fresh}
 use Rattle.scope.proofs.Halving.{Forest}
 use Rattle.scope.proofs.Sound.{Offered}
-use Rattle.arcs.specs.Search.{Flags}
+use Rattle.free_slots.specs.Search.{Flags}
 use Rattle.arcs.specs.Place.{slotsIn, PlaceAsks}
 
 -- ---- the cell
@@ -33,31 +33,31 @@ pub record CellHeld (head cells parent rank : List ℕ) (x place : ℕ) (head′
 
 -- ---- its outline
 
-pub record OutlineAsks (slotRow slotCell prev next rowSlot full o : List ℕ) (place : ℕ) : Type 0 where
-  pub placing : PlaceAsks slotRow slotCell rowSlot full o place
+pub record OutlineAsks (slotRow slotCell prev next rowSlot vacant o : List ℕ) (place : ℕ) : Type 0 where
+  pub placing : PlaceAsks slotRow slotCell rowSlot vacant o place
   pub once : Fresh o
   pub even-prev : length prev ≡ length slotRow
   pub even-next : length next ≡ length slotRow
 
--- Its i-th edge is in the i-th lowest free slot, and linked to the edge after it; blocks that are flagged have no free slot.
-pub record OutlinePlaced (slotRow slotCell prev next rowSlot o : List ℕ) (place : ℕ) (slotRow′ slotCell′ prev′ next′ rowSlot′ full′ : List ℕ) : Type 0 where
+-- Its i-th edge is in the i-th lowest free slot, and linked to the edge after it; slots that are free are flagged as such.
+pub record OutlinePlaced (slotRow slotCell prev next rowSlot o : List ℕ) (place : ℕ) (slotRow′ slotCell′ prev′ next′ rowSlot′ vacant′ : List ℕ) : Type 0 where
   pub rows : slotRow′ ≡ putAll (slotsIn slotRow o) (map suc o) slotRow
   pub cells : slotCell′ ≡ putAll (slotsIn slotRow o) (replicate (length o) place) slotCell
   pub prevs : prev′ ≡ putAll (rotate (slotsIn slotRow o)) (slotsIn slotRow o) prev
   pub nexts : next′ ≡ putAll (slotsIn slotRow o) (rotate (slotsIn slotRow o)) next
   pub slots : rowSlot′ ≡ putAll o (map suc (slotsIn slotRow o)) rowSlot
-  pub flags : Flags full′ slotRow′
+  pub flags : Flags vacant′ slotRow′
 
 -- ---- all of it
 
--- The state is sound and accepts the cell, blocks that are flagged have no free slot, and the rows are the cell's outline.
-pub record AddAsks (t : Table) (m : Memory) (full : List ℕ) (x : ℕ) (o : List ℕ) : Type 0 where
+-- The state is sound and accepts the cell, its free slots are flagged as such, and the rows are the cell's outline.
+pub record AddAsks (t : Table) (m : Memory) (vacant : List ℕ) (x : ℕ) (o : List ℕ) : Type 0 where
   pub offered : Offered t m x
-  pub flags : Flags full (m .slotRow)
+  pub flags : Flags vacant (m .slotRow)
   pub rows : o ≡ outlineRows t x
 
 -- The state left is scope's with one more cell. The answer is the number of pairs that cancelled: so many pairs of slots are free again.
-pub record Added (t : Table) (m : Memory) (x pairs : ℕ) (m′ : Memory) (full′ : List ℕ) : Type 0 where
+pub record Added (t : Table) (m : Memory) (x pairs : ℕ) (m′ : Memory) (vacant′ : List ℕ) : Type 0 where
   pub left : m′ ≡ taking t m x
   pub free : length (freeSlots m′) + length (outlineRows t x) ≡ length (freeSlots m) + 2 * pairs
-  pub flags : Flags full′ (m′ .slotRow)
+  pub flags : Flags vacant′ (m′ .slotRow)

@@ -1,5 +1,5 @@
 // Cancelling: an edge whose reverse has a slot leaves the pool with it, and their cells are united.
-use crate::search::BLOCK;
+use free_slots::vacate_two;
 use slices::get32;
 use slices::put32;
 use union_find::union;
@@ -7,7 +7,7 @@ ghost use mathlib.Core.Path.{_≡_};
 ghost use mathlib.Core.List.{[]};
 ghost use Prim.Native.Nat.{_<_};
 ghost use lib.ListN.{length};
-ghost use Rattle.arcs.specs.Search.{Flags};
+ghost use Rattle.free_slots.specs.Search.{Flags};
 ghost use Rattle.arcs.specs.Cancel.{swapNext, swapPrev, dropNext, dropPrev, pairNext, pairPrev, clearTwo, Closed, pool, PairAsks, FreeAsks, Freed, PairCancelled};
 ghost use Rattle.arcs.specs.CancelRows.{reverses, RowAsks, RowCancelled, CancelAsks, RowsCancelled};
 
@@ -78,7 +78,7 @@ fn free_pair(
     clear_two(row_slot, row, back);
 }
 
-// The edges of `row` and of `back`, each other's reverse and both in the pool, cancel. Blocks with their slots are flagged no longer.
+// The edges of `row` and of `back`, each other's reverse and both in the pool, cancel. Their slots are flagged as free.
 fn cancel_pair(
     parent: &mut [u32],
     rank: &mut [u32],
@@ -87,13 +87,13 @@ fn cancel_pair(
     prev: &mut [u32],
     next: &mut [u32],
     row_slot: &mut [u32],
-    full: &mut [u32],
+    vacant: &mut [u64],
     held: usize,
     row: usize,
     back: usize,
 )
-    requires { ⌜ PairAsks (pool (now parent) (now rank) (now «slot_row») (now «slot_cell») (now prev) (now next) (now «row_slot»)) held row back × Flags (now full) (now «slot_row») ⌝ }
-    ensures { λ _. ⌜ PairCancelled (pool (now (parent .entry)) (now (rank .entry)) (now («slot_row» .entry)) (now («slot_cell» .entry)) (now (prev .entry)) (now (next .entry)) (now («row_slot» .entry))) held row back (pool (now (parent .exit)) (now (rank .exit)) (now («slot_row» .exit)) (now («slot_cell» .exit)) (now (prev .exit)) (now (next .exit)) (now («row_slot» .exit))) × Flags (now (full .exit)) (now («slot_row» .exit)) ⌝ }
+    requires { ⌜ PairAsks (pool (now parent) (now rank) (now «slot_row») (now «slot_cell») (now prev) (now next) (now «row_slot»)) held row back × Flags (now vacant) (now «slot_row») ⌝ }
+    ensures { λ _. ⌜ PairCancelled (pool (now (parent .entry)) (now (rank .entry)) (now («slot_row» .entry)) (now («slot_cell» .entry)) (now (prev .entry)) (now (next .entry)) (now («row_slot» .entry))) held row back (pool (now (parent .exit)) (now (rank .exit)) (now («slot_row» .exit)) (now («slot_cell» .exit)) (now (prev .exit)) (now (next .exit)) (now («row_slot» .exit))) × Flags (now (vacant .exit)) (now («slot_row» .exit)) ⌝ }
 {
     let x = get32(row_slot, row) - 1;
     let y = get32(row_slot, back) - 1;
@@ -102,7 +102,7 @@ fn cancel_pair(
     union(parent, rank, held, cell_x, cell_y);
     merge_arcs(prev, next, x, y);
     free_pair(slot_row, slot_cell, prev, next, row_slot, x, y, row, back);
-    clear_two(full, x / BLOCK, y / BLOCK);
+    vacate_two(vacant, x, y);
 }
 
 // The edge of `row` cancels where its reverse has a slot. Answers the number of pairs: 0 or 1.
@@ -115,12 +115,12 @@ fn cancel_row(
     prev: &mut [u32],
     next: &mut [u32],
     row_slot: &mut [u32],
-    full: &mut [u32],
+    vacant: &mut [u64],
     held: usize,
     row: usize,
 ) -> usize
-    requires { ⌜ RowAsks (now reverse) (pool (now parent) (now rank) (now «slot_row») (now «slot_cell») (now prev) (now next) (now «row_slot»)) held row × Flags (now full) (now «slot_row») ⌝ }
-    ensures { λ r. ⌜ (RowCancelled (now (reverse .entry)) (pool (now (parent .entry)) (now (rank .entry)) (now («slot_row» .entry)) (now («slot_cell» .entry)) (now (prev .entry)) (now (next .entry)) (now («row_slot» .entry))) held row r (pool (now (parent .exit)) (now (rank .exit)) (now («slot_row» .exit)) (now («slot_cell» .exit)) (now (prev .exit)) (now (next .exit)) (now («row_slot» .exit)))) × Flags (now (full .exit)) (now («slot_row» .exit)) ⌝ }
+    requires { ⌜ RowAsks (now reverse) (pool (now parent) (now rank) (now «slot_row») (now «slot_cell») (now prev) (now next) (now «row_slot»)) held row × Flags (now vacant) (now «slot_row») ⌝ }
+    ensures { λ r. ⌜ (RowCancelled (now (reverse .entry)) (pool (now (parent .entry)) (now (rank .entry)) (now («slot_row» .entry)) (now («slot_cell» .entry)) (now (prev .entry)) (now (next .entry)) (now («row_slot» .entry))) held row r (pool (now (parent .exit)) (now (rank .exit)) (now («slot_row» .exit)) (now («slot_cell» .exit)) (now (prev .exit)) (now (next .exit)) (now («row_slot» .exit)))) × Flags (now (vacant .exit)) (now («slot_row» .exit)) ⌝ }
 {
     let back = get32(reverse, row);
     if get32(row_slot, back) == 0 {
@@ -134,7 +134,7 @@ fn cancel_row(
         prev,
         next,
         row_slot,
-        full,
+        vacant,
         held,
         row,
         back,
@@ -152,12 +152,12 @@ pub fn cancel_rows(
     prev: &mut [u32],
     next: &mut [u32],
     row_slot: &mut [u32],
-    full: &mut [u32],
+    vacant: &mut [u64],
     rows: &[u32],
     held: usize,
 ) -> usize
-    requires { ⌜ CancelAsks (reverses (now reverse)) (pool (now parent) (now rank) (now «slot_row») (now «slot_cell») (now prev) (now next) (now «row_slot»)) held (now rows) × Flags (now full) (now «slot_row») ⌝ }
-    ensures { λ r. ⌜ RowsCancelled (reverses (now (reverse .entry))) (pool (now (parent .entry)) (now (rank .entry)) (now («slot_row» .entry)) (now («slot_cell» .entry)) (now (prev .entry)) (now (next .entry)) (now («row_slot» .entry))) held (now (rows .entry)) r (pool (now (parent .exit)) (now (rank .exit)) (now («slot_row» .exit)) (now («slot_cell» .exit)) (now (prev .exit)) (now (next .exit)) (now («row_slot» .exit))) × Flags (now (full .exit)) (now («slot_row» .exit)) ⌝ }
+    requires { ⌜ CancelAsks (reverses (now reverse)) (pool (now parent) (now rank) (now «slot_row») (now «slot_cell») (now prev) (now next) (now «row_slot»)) held (now rows) × Flags (now vacant) (now «slot_row») ⌝ }
+    ensures { λ r. ⌜ RowsCancelled (reverses (now (reverse .entry))) (pool (now (parent .entry)) (now (rank .entry)) (now («slot_row» .entry)) (now («slot_cell» .entry)) (now (prev .entry)) (now (next .entry)) (now («row_slot» .entry))) held (now (rows .entry)) r (pool (now (parent .exit)) (now (rank .exit)) (now («slot_row» .exit)) (now («slot_cell» .exit)) (now (prev .exit)) (now (next .exit)) (now («row_slot» .exit))) × Flags (now (vacant .exit)) (now («slot_row» .exit)) ⌝ }
 {
     let mut pairs = 0;
     let mut i = 0;
@@ -172,7 +172,7 @@ pub fn cancel_rows(
             prev,
             next,
             row_slot,
-            full,
+            vacant,
             held,
             row,
         );

@@ -1,7 +1,6 @@
 // The pool: edges of the accepted outlines in slots, linked to rings. The Rust's `ArcSolvent`.
 mod cancel;
 pub mod place;
-mod search;
 
 use cancel::cancel_rows;
 use place::hold_cell;
@@ -43,8 +42,8 @@ fn open_head(head: &mut [u32], mode: usize)
 }
 
 // Takes one more cell, whose outline is `rows`: the cell is held, its edges are put into the lowest free
-// slots, and what cancels leaves the pool. Answers how many pairs cancelled. `full` flags blocks with no free
-// slot. `edges`, `area` and the marks are here for the contract alone, which is about the whole table and state.
+// slots, and what cancels leaves the pool. Answers how many pairs cancelled. `vacant` flags slots that may
+// be free. `edges`, `area` and the marks are here for the contract alone, which is about the whole table and state.
 pub fn add_edges(
     edges: &[u64],
     reverse: &[u32],
@@ -60,15 +59,24 @@ pub fn add_edges(
     next: &mut [u32],
     row_slot: &mut [u32],
     row_mark: &[u32],
-    full: &mut [u32],
+    vacant: &mut [u64],
     rows: &[u32],
     cell: u64,
 ) -> usize
-    requires { ⌜ AddAsks (table (now edges) (now reverse) (now area)) (memory (now head) (now cells) (now parent) (now rank) (now «cell_mark») (now «slot_row») (now «slot_cell») (now prev) (now next) (now «row_slot») (now «row_mark»)) (now full) cell (now rows) ⌝ }
-    ensures { λ r. ⌜ Added (table (now (edges .entry)) (now (reverse .entry)) (now (area .entry))) (memory (now (head .entry)) (now (cells .entry)) (now (parent .entry)) (now (rank .entry)) (now («cell_mark» .entry)) (now («slot_row» .entry)) (now («slot_cell» .entry)) (now (prev .entry)) (now (next .entry)) (now («row_slot» .entry)) (now («row_mark» .entry))) cell r (memory (now (head .exit)) (now (cells .exit)) (now (parent .exit)) (now (rank .exit)) (now («cell_mark» .entry)) (now («slot_row» .exit)) (now («slot_cell» .exit)) (now (prev .exit)) (now (next .exit)) (now («row_slot» .exit)) (now («row_mark» .entry))) (now (full .exit)) ⌝ }
+    requires { ⌜ AddAsks (table (now edges) (now reverse) (now area)) (memory (now head) (now cells) (now parent) (now rank) (now «cell_mark») (now «slot_row») (now «slot_cell») (now prev) (now next) (now «row_slot») (now «row_mark»)) (now vacant) cell (now rows) ⌝ }
+    ensures { λ r. ⌜ Added (table (now (edges .entry)) (now (reverse .entry)) (now (area .entry))) (memory (now (head .entry)) (now (cells .entry)) (now (parent .entry)) (now (rank .entry)) (now («cell_mark» .entry)) (now («slot_row» .entry)) (now («slot_cell» .entry)) (now (prev .entry)) (now (next .entry)) (now («row_slot» .entry)) (now («row_mark» .entry))) cell r (memory (now (head .exit)) (now (cells .exit)) (now (parent .exit)) (now (rank .exit)) (now («cell_mark» .entry)) (now («slot_row» .exit)) (now («slot_cell» .exit)) (now (prev .exit)) (now (next .exit)) (now («row_slot» .exit)) (now («row_mark» .entry))) (now (vacant .exit)) ⌝ }
 {
     let place = hold_cell(head, cells, parent, rank, cell);
-    place_outline(slot_row, slot_cell, prev, next, row_slot, full, rows, place);
+    place_outline(
+        slot_row,
+        slot_cell,
+        prev,
+        next,
+        row_slot,
+        vacant,
+        rows,
+        place,
+    );
     cancel_rows(
         reverse,
         parent,
@@ -78,7 +86,7 @@ pub fn add_edges(
         prev,
         next,
         row_slot,
-        full,
+        vacant,
         rows,
         place + 1,
     )

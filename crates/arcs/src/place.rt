@@ -1,5 +1,5 @@
 // Placing an outline: its i-th edge takes the i-th lowest free slot, and its edges are linked in walk order.
-use crate::search::lowest_free;
+use free_slots::lowest_free;
 use slices::get32;
 use slices::put32;
 use union_find::add;
@@ -17,18 +17,18 @@ fn place_rows(
     slot_row: &mut [u32],
     slot_cell: &mut [u32],
     row_slot: &mut [u32],
-    full: &mut [u32],
+    vacant: &mut [u64],
     rows: &[u32],
     place: usize,
 )
-    requires { ⌜ PlaceAsks (now «slot_row») (now «slot_cell») (now «row_slot») (now full) (now rows) place ⌝ }
-    ensures { λ _. ⌜ PlacedRows (now («slot_row» .entry)) (now («slot_cell» .entry)) (now («row_slot» .entry)) (now (rows .entry)) place (now («slot_row» .exit)) (now («slot_cell» .exit)) (now («row_slot» .exit)) (now (full .exit)) ⌝ }
+    requires { ⌜ PlaceAsks (now «slot_row») (now «slot_cell») (now «row_slot») (now vacant) (now rows) place ⌝ }
+    ensures { λ _. ⌜ PlacedRows (now («slot_row» .entry)) (now («slot_cell» .entry)) (now («row_slot» .entry)) (now (rows .entry)) place (now («slot_row» .exit)) (now («slot_cell» .exit)) (now («row_slot» .exit)) (now (vacant .exit)) ⌝ }
 {
     let mut start = 0;
     let mut i = 0;
     while i < rows.len() {
         let row = get32(rows, i);
-        let slot = lowest_free(slot_row, full, start);
+        let slot = lowest_free(slot_row, vacant, start);
         put32(slot_row, slot, row + 1);
         put32(slot_cell, slot, place);
         put32(row_slot, row, slot + 1);
@@ -75,14 +75,14 @@ pub fn place_outline(
     prev: &mut [u32],
     next: &mut [u32],
     row_slot: &mut [u32],
-    full: &mut [u32],
+    vacant: &mut [u64],
     rows: &[u32],
     place: usize,
 )
-    requires { ⌜ OutlineAsks (now «slot_row») (now «slot_cell») (now prev) (now next) (now «row_slot») (now full) (now rows) place ⌝ }
-    ensures { λ _. ⌜ OutlinePlaced (now («slot_row» .entry)) (now («slot_cell» .entry)) (now (prev .entry)) (now (next .entry)) (now («row_slot» .entry)) (now (rows .entry)) place (now («slot_row» .exit)) (now («slot_cell» .exit)) (now (prev .exit)) (now (next .exit)) (now («row_slot» .exit)) (now (full .exit)) ⌝ }
+    requires { ⌜ OutlineAsks (now «slot_row») (now «slot_cell») (now prev) (now next) (now «row_slot») (now vacant) (now rows) place ⌝ }
+    ensures { λ _. ⌜ OutlinePlaced (now («slot_row» .entry)) (now («slot_cell» .entry)) (now (prev .entry)) (now (next .entry)) (now («row_slot» .entry)) (now (rows .entry)) place (now («slot_row» .exit)) (now («slot_cell» .exit)) (now (prev .exit)) (now (next .exit)) (now («row_slot» .exit)) (now (vacant .exit)) ⌝ }
 {
-    place_rows(slot_row, slot_cell, row_slot, full, rows, place);
+    place_rows(slot_row, slot_cell, row_slot, vacant, rows, place);
     link_rows(prev, next, row_slot, rows);
 }
 

@@ -6,7 +6,7 @@
 use mathlib.Core.Path.{_≡_, refl, sym, _∙_, ap, subst}
 use mathlib.Core.Bool.{Bool, true, false, not}
 use mathlib.Core.List.{List, [], _∷_, _++_, append-assoc}
-use Prim.Native.Nat.{ℕ, suc, _+_, _/_, _≤_, _<_}
+use Prim.Native.Nat.{ℕ, suc, _+_, _/_, _%_, _≤_, _<_}
 use native.Mathlib.Numerals.{add-one}
 use native.Mathlib.Omega.{arith}
 use lib.ListN.{length, drop, drop-of-length-le, replicate, length-replicate, getD-replicate}
@@ -26,7 +26,8 @@ use Rattle.scope.proofs.CellOffers.{offers-in-turn}
 use Rattle.scope.proofs.Sound.{Sound, state-sound, Offered}
 use Rattle.scope.proofs.Taking.{taken-mode, taken-room, taken-cells}
 use Rattle.scope.proofs.TakingRules.{taken-sound}
-use Rattle.arcs.specs.Search.{Flags}
+use Rattle.free_slots.specs.Search.{digitAt, Flags}
+use Rattle.free_slots.proofs.Digits.{ones-digit}
 use Rattle.arcs.specs.Place.{freeIn}
 use Rattle.taking.specs.declared.take.Taken.{Taken}
 use Rattle.taking.specs.Taking.{TakeAsks, Takes, ListAsks, ScratchAsks, TakesAll}
@@ -65,25 +66,28 @@ pub record InTurn (t : Table) (m₀ : Memory) (cs : List ℕ) (m : Memory) (rows
   pub same : offeringAll t m₀ cs ≡ offeringAll t m (drop i cs)
   pub free-count : free ≡ length (freeSlots m)
   pub flags : Flags full (m .slotRow)
-  pub long-full : length full ≡ 256
+  pub long-full : length full ≡ 1024
   pub room : rowCount t ≤ length rows
   pub sized : Sized m₀ m
 
--- no block is flagged at first
-no-flags : {t : Table} {m : Memory} → Sound t m → Flags (replicate 256 0) (m .slotRow)
-no-flags S =
-    let l = length-replicate {A = ℕ} 256 0 in
+-- every slot is flagged at first
+all-flags : {t : Table} {m : Memory} → Sound t m → Flags (replicate 1024 18446744073709551615) (m .slotRow)
+all-flags S =
+    let l = length-replicate {A = ℕ} 1024 18446744073709551615 in
     let most = S .lengths .most-slots in
-    record { room = omega arith; few = omega arith; unset = λ s h e. getD-replicate {A = ℕ} 256 (s / 256) 0 0 (omega arith) }
+    record {
+      room = omega arith;
+      shown = λ s h e. ap (λ (w : ℕ). digitAt w (s % 64)) (getD-replicate {A = ℕ} 1024 (s / 64) 18446744073709551615 0 (omega arith)) ∙ ones-digit 64 (s % 64) (omega arith);
+    }
 
-pub turn-start : {t : Table} {m : Memory} {cs rows : List ℕ} {free : ℕ} → ScratchAsks t m rows cs → free ≡ length (freeSlots m) → InTurn t m cs m rows (replicate 256 0) free 0
+pub turn-start : {t : Table} {m : Memory} {cs rows : List ℕ} {free : ℕ} → ScratchAsks t m rows cs → free ≡ length (freeSlots m) → InTurn t m cs m rows (replicate 1024 18446744073709551615) free 0
 turn-start {m = m} A e = record {
   within = omega arith;
   asks = A .asks;
   same = refl;
   free-count = e;
-  flags = no-flags (A .asks .sound);
-  long-full = length-replicate {A = ℕ} 256 0;
+  flags = all-flags (A .asks .sound);
+  long-full = length-replicate {A = ℕ} 1024 18446744073709551615;
   room = A .room;
   sized = sized-refl m;
 }

@@ -27,7 +27,7 @@ use Rattle.scope.proofs.Verdicts.{accepted, first-accepts, second-accepts, requ
 use Rattle.scope.proofs.Below.{below-count}
 use Rattle.scope.proofs.Tables.{TableGood}
 use Rattle.scope.proofs.Sound.{Sound, sound-table, Offered}
-use Rattle.arcs.specs.Search.{Flags}
+use Rattle.free_slots.specs.Search.{Flags}
 use Rattle.arcs.specs.Taking.{AddAsks, Added}
 use Rattle.taking.specs.declared.outline.Outlined.{Outlined}
 use Rattle.taking.specs.declared.take.Taken.{Taken}

@@ -9,8 +9,10 @@ ghost use Rattle.scope.specs.Table.{table};
 ghost use Rattle.scope.specs.Memory.{memory};
 ghost use Rattle.taking.specs.Taking.{ScratchAsks, TakesAll};
 
-// A flag for each block of the largest pool: where it is set, no slot of the block is free.
-const FLAGS: usize = 256;
+// A flag for each slot of the largest pool, 64 to a word: where it is clear, the slot is used. At first all are set.
+const WORDS: usize = 1024;
+
+const ALL: u64 = 0xffff_ffff_ffff_ffff;
 
 // The cells of a list that passes, in turn, up to the first that is refused. `rows` is scratch, `notes` any notes of the table's rows.
 fn take_list(
@@ -35,7 +37,7 @@ fn take_list(
     requires { ⌜ ScratchAsks (table (now edges) (now reverse) (now area)) (memory (now head) (now cells) (now parent) (now rank) (now «cell_mark») (now «slot_row») (now «slot_cell») (now prev) (now next) (now «row_slot») (now «row_mark»)) (now rows) (now list) ⌝ }
     ensures { λ r. ⌜ TakesAll (table (now (edges .entry)) (now (reverse .entry)) (now (area .entry))) (memory (now (head .entry)) (now (cells .entry)) (now (parent .entry)) (now (rank .entry)) (now («cell_mark» .entry)) (now («slot_row» .entry)) (now («slot_cell» .entry)) (now (prev .entry)) (now (next .entry)) (now («row_slot» .entry)) (now («row_mark» .entry))) (now (list .entry)) r (memory (now (head .exit)) (now (cells .exit)) (now (parent .exit)) (now (rank .exit)) (now («cell_mark» .entry)) (now («slot_row» .exit)) (now («slot_cell» .exit)) (now (prev .exit)) (now (next .exit)) (now («row_slot» .exit)) (now («row_mark» .exit))) ⌝ }
 {
-    let mut full = [0u32; FLAGS];
+    let mut vacant = [ALL; WORDS];
     let mut free = count_free(slot_row);
     let mut i: usize = 0;
     while i < list.len() {
@@ -56,7 +58,7 @@ fn take_list(
             row_mark,
             notes,
             rows,
-            &mut full,
+            &mut vacant,
             list[i],
             free,
         );

@@ -32,7 +32,7 @@ fn outline_verdict(outlined: Outlined, held: usize, free: usize) -> Verdict
     Verdict::Accepted
 }
 
-// Takes a cell of a state that admits it, where so many slots are free, none of them in a block that `full` flags. `rows` is scratch,
+// Takes a cell of a state that admits it, where so many slots are free, all of them flagged in `vacant`. `rows` is scratch,
 // `notes` any notes of the table's rows.
 pub fn take_cell(
     edges: &[u64],
@@ -51,12 +51,12 @@ pub fn take_cell(
     row_mark: &mut [u32],
     notes: &[u32],
     rows: &mut [u32],
-    full: &mut [u32],
+    vacant: &mut [u64],
     cell: u64,
     free: usize,
 ) -> Taken
-    requires { ⌜ TakeAsks (table (now edges) (now reverse) (now area)) (memory (now head) (now cells) (now parent) (now rank) (now «cell_mark») (now «slot_row») (now «slot_cell») (now prev) (now next) (now «row_slot») (now «row_mark»)) (now rows) (now full) cell free ⌝ }
-    ensures { λ r. ⌜ Takes (table (now (edges .entry)) (now (reverse .entry)) (now (area .entry))) (memory (now (head .entry)) (now (cells .entry)) (now (parent .entry)) (now (rank .entry)) (now («cell_mark» .entry)) (now («slot_row» .entry)) (now («slot_cell» .entry)) (now (prev .entry)) (now (next .entry)) (now («row_slot» .entry)) (now («row_mark» .entry))) cell r (memory (now (head .exit)) (now (cells .exit)) (now (parent .exit)) (now (rank .exit)) (now («cell_mark» .entry)) (now («slot_row» .exit)) (now («slot_cell» .exit)) (now (prev .exit)) (now (next .exit)) (now («row_slot» .exit)) (now («row_mark» .exit))) (now (full .exit)) ⌝ }
+    requires { ⌜ TakeAsks (table (now edges) (now reverse) (now area)) (memory (now head) (now cells) (now parent) (now rank) (now «cell_mark») (now «slot_row») (now «slot_cell») (now prev) (now next) (now «row_slot») (now «row_mark»)) (now rows) (now vacant) cell free ⌝ }
+    ensures { λ r. ⌜ Takes (table (now (edges .entry)) (now (reverse .entry)) (now (area .entry))) (memory (now (head .entry)) (now (cells .entry)) (now (parent .entry)) (now (rank .entry)) (now («cell_mark» .entry)) (now («slot_row» .entry)) (now («slot_cell» .entry)) (now (prev .entry)) (now (next .entry)) (now («row_slot» .entry)) (now («row_mark» .entry))) cell r (memory (now (head .exit)) (now (cells .exit)) (now (parent .exit)) (now (rank .exit)) (now («cell_mark» .entry)) (now («slot_row» .exit)) (now («slot_cell» .exit)) (now (prev .exit)) (now (next .exit)) (now («row_slot» .exit)) (now («row_mark» .exit))) (now (vacant .exit)) ⌝ }
 {
     let outlined = outline_rows(edges, notes, row_mark, rows, cell);
     let verdict = outline_verdict(outlined, get32(head, 1), free);
@@ -82,7 +82,7 @@ pub fn take_cell(
         next,
         row_slot,
         row_mark,
-        full,
+        vacant,
         &rows[..count],
         cell,
     );

@@ -1,4 +1,4 @@
--- `arcs::cancel::cancel_pair` meets its contract: union, merging and freeing in a row (Pairs), and no flag is left on the blocks (Unflagging).
+-- `arcs::cancel::cancel_pair` meets its contract: union, merging and freeing in a row (Pairs), and the two slots are flagged (Clearing).
 -- Assumes nothing.
 use native.Mathlib.Omega.{arith}
 use Prim.Native.Nat.{_-_, _<_}
@@ -6,7 +6,7 @@ use mathlib.Core.Path.{_∙_}
 use lib.ListN.{length}
 use Rattle.arcs.specs.Cancel.{pool}
 use Rattle.arcs.proofs.Pairs.{union-asks, merge-asks, free-asks, pair-done}
-use Rattle.arcs.proofs.Unflagging.{flags-cleared}
+use Rattle.arcs.proofs.Clearing.{flags-cleared}
 use Rattle.arcs.proofs.cancel.cancel_pair.Statement.{statement}
 use Rattle.arcs.proofs.cancel.cancel_pair.Tie as tie
 
@@ -57,8 +57,8 @@ free-pair-requires c κs =
     let start = at-get32 .before .before .before .before .before .before .before .before .before .before in
     free-asks (start .pre .0) (at-get32 .get32 .result) (at-get322 .get322 .result) (at-get32 .get32 .ensures .0) (at-get322 .get322 .ensures .0) (at-merge-arcs .merge-arcs .last .0) (at-merge-arcs .merge-arcs .last .1 .0) (at-merge-arcs .merge-arcs .kept .0) (at-merge-arcs .merge-arcs .kept .1 .0)
 
-clear-two-requires : tie.Need-clear-two-requires
-clear-two-requires c κs =
+vacate-two-requires : tie.Need-vacate-two-requires
+vacate-two-requires c κs =
     let at-get322 = c .before .before .before .before .before .before .before .before .before .before .before .before .before .before .before .before .before .before .before .before .before .before .before .before .before .before .before .before .before .before .before .before .before .before .before in
     let at-get32 = at-get322 .before .before in
     let start = at-get32 .before .before .before .before .before .before .before .before .before .before in
@@ -94,7 +94,7 @@ same-length-7 : tie.Need-same-length-7
 same-length-7 c = c .before .before .before .before .before .before .before .before .before .before .before .before .before .before .free-pair .kept .1 .1 .1 .1 .0
 
 same-length-8 : tie.Need-same-length-8
-same-length-8 c = c .before .before .clear-two .kept .0
+same-length-8 c = c .before .before .vacate-two .kept .0
 
 returns : tie.Need-returns
 returns c =
@@ -112,7 +112,7 @@ returns c =
           (pool (at-union .union .last .0) (at-union .union .last .1 .0) (at-free-pair .free-pair .last .0) (at-free-pair .free-pair .last .1 .0) (at-free-pair .free-pair .last .1 .1 .0) (at-free-pair .free-pair .last .1 .1 .1 .0) (at-free-pair .free-pair .last .1 .1 .1 .1 .0))
           (at-union .union .kept .0) (at-union .union .kept .1 .0)
           (at-union .union .ensures) (at-merge-arcs .merge-arcs .ensures .0) (at-merge-arcs .merge-arcs .ensures .1) (at-free-pair .free-pair .ensures),
-      flags-cleared (start .pre .1) x-in y-in (at-free-pair .free-pair .ensures .slot-row) (c .before .before .clear-two .ensures),
+      flags-cleared (start .pre .1) x-in y-in (at-free-pair .free-pair .ensures .slot-row) (c .before .before .vacate-two .ensures),
     )
 
 pub cancel-pair-spec : {M : Type 1} → statement M
@@ -128,7 +128,7 @@ cancel-pair-spec =
     union-requires
     merge-arcs-requires
     free-pair-requires
-    clear-two-requires
+    vacate-two-requires
     same-length
     same-length-2
     same-length-3

@@ -5,7 +5,7 @@ use mathlib.Core.Path.{_≡_, refl, sym, _∙_}
 use Prim.Native.Nat.{_+_, _-_, _<_, _^_}
 use lib.ListN.{length}
 use Rattle.scope.specs.Memory.{Memory}
-use Rattle.arcs.specs.Search.{Flags}
+use Rattle.free_slots.specs.Search.{Flags}
 use Rattle.arcs.specs.Cancel.{pool}
 use Rattle.arcs.specs.CancelRows.{reverses}
 use Rattle.arcs.proofs.RowsMet.{Meeting, meeting-start, row-asks, meeting-turn, meeting-end}
@@ -13,11 +13,11 @@ use Rattle.arcs.proofs.cancel.cancel_rows.Statement.{statement}
 use Rattle.arcs.proofs.cancel.cancel_rows.Tie as tie
 
 abbrev Inv-loop : tie.InvT-loop
-Inv-loop reverse parent₀ rank₀ slot-row₀ slot-cell₀ prev₀ next₀ row-slot₀ full₀ rows held pairs₀ i₀ parent rank slot-row slot-cell prev next row-slot full pairs i =
-    Meeting (reverses reverse) (pool parent₀ rank₀ slot-row₀ slot-cell₀ prev₀ next₀ row-slot₀) held rows i pairs (pool parent rank slot-row slot-cell prev next row-slot) × Flags full slot-row × (length full ≡ length full₀)
+Inv-loop reverse parent₀ rank₀ slot-row₀ slot-cell₀ prev₀ next₀ row-slot₀ vacant₀ rows held pairs₀ i₀ parent rank slot-row slot-cell prev next row-slot vacant pairs i =
+    Meeting (reverses reverse) (pool parent₀ rank₀ slot-row₀ slot-cell₀ prev₀ next₀ row-slot₀) held rows i pairs (pool parent rank slot-row slot-cell prev next row-slot) × Flags vacant slot-row × (length vacant ≡ length vacant₀)
 
 abbrev μ-loop : tie.MeasureT-loop
-μ-loop reverse parent₀ rank₀ slot-row₀ slot-cell₀ prev₀ next₀ row-slot₀ full₀ rows held pairs₀ i₀ parent rank slot-row slot-cell prev next row-slot full pairs i = length rows - i
+μ-loop reverse parent₀ rank₀ slot-row₀ slot-cell₀ prev₀ next₀ row-slot₀ vacant₀ rows held pairs₀ i₀ parent rank slot-row slot-cell prev next row-slot vacant pairs i = length rows - i
 
 -- `left`: the lists that a turn leaves; `turned`: the turn; `in-rows`: its number is below the number of rows, which fits.
 abbrev left : tie.After-cancel-row Inv-loop μ-loop → Memory

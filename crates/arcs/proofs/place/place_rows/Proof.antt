@@ -9,11 +9,11 @@ use Rattle.arcs.proofs.place.place_rows.Statement.{statement}
 use Rattle.arcs.proofs.place.place_rows.Tie as tie
 
 abbrev Inv-loop : tie.InvT-loop
-Inv-loop slot-row₀ slot-cell₀ row-slot₀ full₀ rows place start₀ i₀ slot-row slot-cell row-slot full start i =
-    Placing slot-row₀ slot-cell₀ row-slot₀ full₀ rows place i start slot-row slot-cell row-slot full
+Inv-loop slot-row₀ slot-cell₀ row-slot₀ vacant₀ rows place start₀ i₀ slot-row slot-cell row-slot vacant start i =
+    Placing slot-row₀ slot-cell₀ row-slot₀ vacant₀ rows place i start slot-row slot-cell row-slot vacant
 
 abbrev μ-loop : tie.MeasureT-loop
-μ-loop slot-row₀ slot-cell₀ row-slot₀ full₀ rows place start₀ i₀ slot-row slot-cell row-slot full start i = length rows - i
+μ-loop slot-row₀ slot-cell₀ row-slot₀ vacant₀ rows place start₀ i₀ slot-row slot-cell row-slot vacant start i = length rows - i
 
 -- `slot`: what the search answers; `fits`: its stores fit.
 
@@ -109,7 +109,7 @@ same-length-3 : tie.Need-same-length-3 Inv-loop μ-loop
 same-length-3 c = c .before .loop .inv .long-slots
 
 same-length-4 : tie.Need-same-length-4 Inv-loop μ-loop
-same-length-4 c = c .before .loop .inv .long-full
+same-length-4 c = c .before .loop .inv .long-vacant
 
 returns : tie.Need-returns Inv-loop μ-loop
 returns c = placing-end (c .before .before .before .before .before .before .before .pre) (c .before .loop .inv) (c .loop-test .left)

@@ -1,9 +1,9 @@
--- `arcs::search::four_used` meets its contract.
+-- `free_slots::four_used` meets its contract.
 -- Assumes nothing.
 use borrow.Author.Needs.{needs}
-use Rattle.arcs.proofs.Searching.{joined}
-use Rattle.arcs.proofs.search.four_used.Statement.{statement}
-use Rattle.arcs.proofs.search.four_used.Tie as tie
+use Rattle.free_slots.proofs.Searching.{joined}
+use Rattle.free_slots.proofs.four_used.Statement.{statement}
+use Rattle.free_slots.proofs.four_used.Tie as tie
 
 two-used-requires : tie.Need-two-used-requires
 two-used-requires c κs = search needs

@@ -1,9 +1,9 @@
--- `arcs::search::eight_used` meets its contract.
+-- `free_slots::eight_used` meets its contract.
 -- Assumes nothing.
 use borrow.Author.Needs.{needs}
-use Rattle.arcs.proofs.Searching.{joined}
-use Rattle.arcs.proofs.search.eight_used.Statement.{statement}
-use Rattle.arcs.proofs.search.eight_used.Tie as tie
+use Rattle.free_slots.proofs.Searching.{joined}
+use Rattle.free_slots.proofs.eight_used.Statement.{statement}
+use Rattle.free_slots.proofs.eight_used.Tie as tie
 
 four-used-requires : tie.Need-four-used-requires
 four-used-requires c κs = search needs

@@ -1,13 +1,13 @@
--- `arcs::search::step_to_free` meets its contract: from where the loop stands the lowest free slot is the one from its start.
+-- `free_slots::step_to_free` meets its contract: from where the loop stands the lowest free slot is the one from its start.
 -- Assumes nothing.
 use mathlib.Core.Path.{_≡_, sym, _∙_}
 use Prim.Native.Nat.{_≤_, _-_}
 use borrow.Author.Needs.{needs}
 use lib.ListN.{length}
-use Rattle.arcs.specs.Search.{freeFrom}
-use Rattle.arcs.proofs.Searching.{free-here, free-on, free-end}
-use Rattle.arcs.proofs.search.step_to_free.Statement.{statement}
-use Rattle.arcs.proofs.search.step_to_free.Tie as tie
+use Rattle.free_slots.specs.Search.{freeFrom}
+use Rattle.free_slots.proofs.Searching.{free-here, free-on, free-end}
+use Rattle.free_slots.proofs.step_to_free.Statement.{statement}
+use Rattle.free_slots.proofs.step_to_free.Tie as tie
 
 abbrev Inv-loop : tie.InvT-loop
 Inv-loop slot-row start i₀ i = (i ≤ length slot-row) × (freeFrom slot-row i ≡ freeFrom slot-row start)

@@ -1,13 +1,13 @@
--- `arcs::search::skip_used` meets its contract.
+-- `free_slots::skip_used` meets its contract.
 -- Assumes nothing.
 use native.Mathlib.Omega.{arith}
 use borrow.Author.Tests.{not-false}
 use mathlib.Core.Path.{_≡_, refl, _∙_}
 use Prim.Native.Nat.{_-_, _≤_}
 use lib.ListN.{length}
-use Rattle.arcs.specs.Search.{freeFrom}
-use Rattle.arcs.proofs.search.skip_used.Statement.{statement}
-use Rattle.arcs.proofs.search.skip_used.Tie as tie
+use Rattle.free_slots.specs.Search.{freeFrom}
+use Rattle.free_slots.proofs.skip_used.Statement.{statement}
+use Rattle.free_slots.proofs.skip_used.Tie as tie
 
 abbrev Inv-loop : tie.InvT-loop
 Inv-loop slot-row start i₀ i = (i ≤ length slot-row) × (freeFrom slot-row i ≡ freeFrom slot-row start)

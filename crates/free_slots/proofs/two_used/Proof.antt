@@ -1,10 +1,10 @@
--- `arcs::search::two_used` meets its contract.
+-- `free_slots::two_used` meets its contract.
 -- Assumes nothing.
 use borrow.Author.Needs.{needs}
 use mathlib.Core.Path.{refl}
-use Rattle.arcs.proofs.Searching.{two-passed}
-use Rattle.arcs.proofs.search.two_used.Statement.{statement}
-use Rattle.arcs.proofs.search.two_used.Tie as tie
+use Rattle.free_slots.proofs.Searching.{two-passed}
+use Rattle.free_slots.proofs.two_used.Statement.{statement}
+use Rattle.free_slots.proofs.two_used.Tie as tie
 
 mul-result : tie.Need-mul-result
 mul-result c = search needs

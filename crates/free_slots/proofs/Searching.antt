@@ -17,7 +17,7 @@ use borrow.Author.Tests.{eq-eqb, ne-eqb}
 use Rattle.scope.specs.Lists.{at, from}
 use Rattle.scope.proofs.Tests.{clash, either, le-or-lt, and-left, and-right}
 use Rattle.scope.proofs.Members.{cases}
-use Rattle.arcs.specs.Search.{freeFrom, PassedOver}
+use Rattle.free_slots.specs.Search.{freeFrom, PassedOver}
 
 pub from-same : (ok ko : ℕ → Bool) (n i : ℕ) → ((k : ℕ) → i ≤ k → ok k ≡ ko k) → from ok n i ≡ from ko n i
 unfolding from

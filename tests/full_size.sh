@@ -1,6 +1,7 @@
 #!/usr/bin/env bash
 # The tools on tables and lists of full size. What a tool says is held to what the rules and the Rust say of the same files (`runs said`), to the
-# last edge: counts, the order of polygons and rings, the bits of areas, each ring's edges around from its lowest row; or the refusal and its line.
+# last edge: counts, groups, the order of polygons and rings, the bits of areas, each ring's edges around from its lowest row; or the refusal and its
+# line.
 # It needs the tools in target/bin, the runs as .ci/run builds them, and big_r9.csv of the real tables.
 set -u
 cd "$(dirname "$0")/.." || exit 2
@@ -24,9 +25,9 @@ fault() {
   diff "$work/said" "$work/expected" | head -n 6 | cut -c 1-200
 }
 
-# What a tool says without what neither the rules nor the Rust know: decimals of an area, a group's number, what a refusal or a fault means.
+# What a tool says without the decimals of an area, and without what a refusal or a fault means.
 comparable() {
-  sed -E 's/area [0-9.]+ \(bits ([0-9a-f]+)\)/bits \1/; s/ of group [0-9]+//; s/(refused( by)? [0-9]+(: [0-9]+)?),.*/\1/
+  sed -E 's/area [0-9.]+ \(bits ([0-9a-f]+)\)/bits \1/; s/(refused( by)? [0-9]+(: [0-9]+)?),.*/\1/
     /refused/! s/( (byte|line) [0-9]+):.*/\1/'
 }
 

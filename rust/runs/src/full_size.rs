@@ -60,7 +60,8 @@ fn lists(big: &Given) -> Vec<(&'static str, Vec<u64>)> {
     ]
 }
 
-/// 20,000 offers: after every ten cells the broker restarts and sends nine of all that came again; then a cell comes that is coarse, of elsewhere, or none.
+/// 20,000 offers: after every ten cells the broker restarts and sends nine of all that came again; then comes a number that is a coarser
+/// cell, a cell elsewhere, or no cell.
 fn feed(zone: &[u64], elsewhere: &[u64]) -> Vec<u64> {
     let mut random = Random::new(1);
     let mut feed = Vec::new();

@@ -1,18 +1,18 @@
-//! What the tools have to say of a table file and a list, at any size: the verdict on a list by the rules, its outline by the Rust. Of a tool's own
-//! words those are left out that neither knows (the decimals of an area, a group's number, what a refusal means); tests/full_size.sh leaves
-//! them out of what the tool says too, and compares the rest.
+//! What the tools have to say of a table file and a list, at any size: the verdict on a list and the groups by the rules, the outline by the
+//! definitions and the Rust alike. Of a tool's own words the decimals of an area and what a refusal means are left out; tests/full_size.sh
+//! leaves them out of what the tool says too, and compares the rest.
 use crate::{
-    oracle_answer::lent,
+    oracle_answer::{Compared, lent},
     rules::{
-        Refusal, Verdict,
+        Refusal, Verdict, afresh,
         bytes::table_of,
         cells::{is_cell, resolution},
         lists::{Kept, check_list},
         refuse,
+        rings::{ReadOut, Ring},
         table::Table,
     },
 };
-use oracle::dissolve::{Answer, Ring};
 use std::{collections::BTreeSet, fmt::Write as _, fs};
 
 /// As many as a tool has places for.
@@ -70,10 +70,13 @@ fn check_outlines(table: &Table, cells: &[u64]) -> Verdict {
     cells.iter().position(|cell| !table.holds_outline(*cell)).map_or(Ok(()), |index| refuse(5, index))
 }
 
+/// What is defined, if the Rust answers the same.
 fn polygons(table: &Table, kept: Kept, cells: &[u64]) -> Result<Polygons, String> {
-    match lent(table).ok_or("the table cannot be lent")?.ask(kept, table.target(), cells) {
-        Answer::Outline(polygons) => Ok(polygons),
-        other => Err(format!("the Rust answers {other:?}")),
+    let defined = Ok(afresh::dissolve(table, cells).ok_or("an outline of an accepted cell is not there")?);
+    let lent = lent(table).ok_or("the table breaks a rule")?;
+    match (lent.compare(kept, table.target(), cells, &defined)?, defined) {
+        (Compared::Same, Ok(ReadOut::Outline(polygons))) => Ok(polygons),
+        _ => Err("a list at full size has an outline, and the Rust is asked for it".into()),
     }
 }
 
@@ -86,34 +89,40 @@ impl Zone<'_> {
         self.polygons.iter().flatten().map(|ring| ring.rows.len()).sum()
     }
 
-    /// A ring's kind, area and length, then its edges, each behind `gap`.
-    fn ring(&self, place: usize, ring: &Ring, gap: &str) -> String {
-        let kind = if place == 0 { "outer" } else { "inner" };
-        let mut line = format!("{kind} ring, bits {:016x}, edges {}:", ring.area.to_bits(), ring.rows.len());
-        ring.rows.iter().for_each(|row| line += &format!("{gap}{:x}", self.table.edges[*row as usize]));
-        line
+    /// A ring's edges, each behind `gap`.
+    fn edges(&self, ring: &Ring, gap: &str) -> String {
+        ring.rows.iter().map(|row| format!("{gap}{:x}", self.table.edges[*row])).collect()
     }
 }
 
+fn kind(place: usize) -> &'static str {
+    if place == 0 { "outer ring" } else { "inner ring" }
+}
+
+fn measure(ring: &Ring) -> String {
+    format!("bits {:016x}, edges {}", ring.area_bits(), ring.rows.len())
+}
+
 fn outline(zone: &Zone) -> String {
-    let mut said =
-        format!("table edges {}\ncells {}\npolygons {}\n", zone.table.rows(), zone.cells, zone.polygons.len());
-    said += &format!("rings {}\nstanding edges {}\n", zone.rings(), zone.standing());
+    let mut said = format!("table edges {}\ncells {}\n", zone.table.rows(), zone.cells);
+    said += &format!("polygons {}\nrings {}\n", zone.polygons.len(), zone.rings());
+    said += &format!("standing edges {}\n", zone.standing());
     for rings in &zone.polygons {
-        said += "polygon\n";
+        said += &format!("polygon of group {}\n", rings[0].group);
         for (place, ring) in rings.iter().enumerate() {
-            said += &format!("  {}\n", zone.ring(place, ring, "\n    ").replacen(":\n", "\n", 1));
+            said += &format!("  {}, {}{}\n", kind(place), measure(ring), zone.edges(ring, "\n    "));
         }
     }
     said
 }
 
 fn zone(zone: &Zone) -> String {
-    let (rings, standing, first) = (zone.rings(), zone.standing(), zone.polygons[0][0].area.to_bits());
+    let (rings, standing, first) = (zone.rings(), zone.standing(), zone.polygons[0][0].area_bits());
     let mut said = format!("{}: outline, cells {}, polygons {}", zone.list, zone.cells, zone.polygons.len());
     said += &format!(", rings {rings}, standing edges {standing}, first outer bits {first:016x}\n");
-    for rings in &zone.polygons {
-        rings.iter().enumerate().for_each(|(place, ring)| said += &format!("{}\n", zone.ring(place, ring, " ")));
+    for (place, ring) in zone.polygons.iter().flat_map(|rings| rings.iter().enumerate()) {
+        let (group, edges) = (ring.group, zone.edges(ring, " "));
+        said += &format!("{} of group {group}, {}:{edges}\n", kind(place), measure(ring));
     }
     said
 }

@@ -42,13 +42,13 @@ runs [--seed N] [--rounds N] [--tables FOLDER] [SECTION...]
     --seed N    another start of the random numbers (1)
     --rounds N  as many random problems in each section (else some twenty seconds' worth in all)
     --tables F  the folder of the real tables (shared/tables beside the repository, or the environment's ZONE_TABLES)
-runs list       writes the fixed list of the oracle's answers to standard output
 runs odd-search looks through every table of one cell and of two for the smallest on which the Rust's answer is not the defined one
-runs bench      times the calls beside the Rust's; `runs bench checks` open and offer alone
 runs full-size FOLDER
                 writes the files of tests/full_size.sh
 runs said TOOL TABLE LIST
                 what a tool (outline, outline-mixed, till_import, year_audit) has to say of a list, by the rules and the Rust
+runs list       writes the fixed list of the oracle's answers to standard output
+runs bench      times the calls beside the Rust's; `runs bench checks` open and offer alone
 runs --help     this
 ";
 
@@ -86,13 +86,12 @@ fn run(arguments: &Arguments) -> Result<(), String> {
             print!("{HELP}");
             Ok(())
         }
+        ["odd-search"] => sections::odd::search(),
+        ["full-size", to] => full_size::write(&arguments.folder, to),
+        ["said", tool, table, list] => said(tool, table, list),
         ["list"] => list::write(&arguments.folder),
         ["bench"] => bench::run(&arguments.folder, false),
         ["bench", "checks"] => bench::run(&arguments.folder, true),
-        ["full-size", to] => full_size::write(&arguments.folder, to),
-        ["said", tool, table, list] => said(tool, table, list),
-        ["odd-search"] => sections::odd::search(),
-        // Asked by section `odd`, in a process of its own.
         ["rust-on", name] => sections::odd::answer_of_the_rust(name),
         names => compare(arguments, names),
     }

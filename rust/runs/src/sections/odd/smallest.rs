@@ -162,6 +162,7 @@ mod asked {
         }
     }
 
+    /// What the process of its own writes.
     pub fn answer_of_the_rust(name: &str) -> Result<(), String> {
         let oddity = ODDITIES.iter().find(|oddity| oddity.name == name).ok_or("no such table")?;
         println!("{}", words(&answered(&named(oddity.pairs), &oddity.cells())?));

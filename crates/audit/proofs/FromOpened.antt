@@ -2,7 +2,7 @@
 --     accepted-all     the accepted cells alone, offered in their order, are all accepted and leave the same memory
 --     accepted-count   there are as many as the tally says
 --     held-are         the held cells are the accepted ones
---     over-none        as many are accepted as are held: no point is credited beyond one for each visit
+--     credited-once    as many are accepted as are held: one point is credited for each visit; `over-none`: none beyond
 --     afresh-same      DISSOLVED AFRESH from the held cells, the answer and the outputs are those of read out
 -- Assumes nothing.
 use Prim.Native.Nat.{ℕ, _+_}
@@ -27,7 +27,7 @@ use Rattle.scope.proofs.Verdicts.{first-accepts, second-accepts, require-holds}
 use Rattle.scope.proofs.Lengths.{lengths-good}
 use Rattle.scope.proofs.TakingCells.{Shown}
 use Rattle.scope.proofs.Run.{opened-shown, all-shown}
-use Rattle.audit.specs.Feed.{verdicts, leftBy, acceptedOf, countOf, tally, pointsOver}
+use Rattle.audit.specs.Feed.{verdicts, leftBy, acceptedOf, countOf, tally, pointsCredited, pointsOver}
 use Rattle.audit.proofs.Tally.{tally-at}
 
 -- ---- the accepted cells alone
@@ -96,8 +96,12 @@ module _ (t : Table) (m : Memory) (mode : ℕ) (opens : openVerdict t m mode ≡
   pub held-count : held last ≡ length taken
   held-count = rw leaves-last at (inner-index t m mode opens taken all-taken)
 
+  -- one point is credited for each visit: as many are accepted as are held
+  pub credited-once : pointsCredited (tally (verdicts t fresh xs)) ≡ held last
+  credited-once = tally-at (verdicts t fresh xs) 0 (omega arith) ∙ accepted-count t fresh xs ∙ sym held-count
+
   pub over-none : pointsOver (held last) (tally (verdicts t fresh xs)) ≡ 0
-  over-none = rw (tally-at (verdicts t fresh xs) 0 (omega arith), accepted-count t fresh xs, held-count) (omega arith)
+  over-none = rw credited-once (omega arith)
 
   pub afresh-same : (o : Output) → readVerdict t last o ≡ Accepted → dissolving t m mode (heldCells last) o ≡ readingOut t last o
   afresh-same o r = rw held-are (dissolve-is t m mode taken o opens all-taken (rw leaves-last r) ∙ ap (λ (k : Memory). readingOut t k o) leaves-last)

@@ -2,5 +2,6 @@
 pub mod Tally
 pub mod Feeding
 pub mod FromOpened
+pub mod Replays
 pub mod Equal
 pub mod Determined

@@ -108,10 +108,12 @@ pub data Example : Type 0 where
   finds : (parents : List ℕ) → (place root : ℕ) → (left : List ℕ) → Example
   -- Worked out afresh: the lengths of the rings of these cells, by lowest row; and the groups of the cells at these places.
   surrounds : (table : Table) → (cells lengths places groups : List ℕ) → Example
+  -- A table may have so many rows, and may not have so many.
+  rowCounts : (fit unfit : List ℕ) → Example
   -- Opening: the refusal and its index, and the mode that the memory then holds.
   opens : (table : Table) → (slots places mode refusal index kept : ℕ) → Example
-  -- With one number less in a slice of the memory opening refuses it, and with one record less in the lengths, the groups or the areas of the
-  -- ring list reading out does: 10.
+  -- With one number less in a slice of the memory every call refuses it, and with one record less in the lengths, the groups or the areas of the
+  -- ring list reading out and dissolving do: 10.
   shortens : (table : Table) → (slots places : ℕ) → (slice : Slice) → Example
   misfits : (run : Offers) → Example
   -- Offers: the last answer's refusal and index; the parents and ranks that they leave.

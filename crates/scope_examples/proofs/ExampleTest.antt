@@ -11,10 +11,11 @@ use Rattle.scope.specs.declared.Verdict.{Verdict}
 use Rattle.scope.specs.Lists.{headOr, below}
 use Rattle.scope.specs.Answers.{refusalOf, indexOf, kindOf, verdictOf, polygonsOf, ringsOf, areaIn}
 use Rattle.scope.specs.Cells.{edgeNumber, resolutionOf}
+use Rattle.scope.specs.Table.{rowCountFits}
 use Rattle.scope.specs.Memory.{Memory, memory, Output, output, keptMode}
 use Rattle.scope.specs.Calls.{Outcome, Reading, over}
 use Rattle.scope_examples.proofs.Computing.{isCell, isEdge, isUnder, walked, summed, noLarger, found, ringsAfresh, groupsAfresh, lent, space, opened, listed, joined, offer, offerAll, read, dissolved}
-use Rattle.scope_examples.proofs.ExampleKinds.{Offers, Shown, refused, Slice, Change, Example, head, cells, parent, rank, cellMark, slotRow, slotCell, prev, next, rowSlot, rowMark, validCells, validEdges, pentagons, nests, walks, adds, compares, finds, surrounds, opens, shortens, misfits, offers, unites, refuses, intrudes, reads, breaks, dissolves, rejects, lists, joins}
+use Rattle.scope_examples.proofs.ExampleKinds.{Offers, Shown, refused, Slice, Change, Example, head, cells, parent, rank, cellMark, slotRow, slotCell, prev, next, rowSlot, rowMark, validCells, validEdges, pentagons, nests, walks, adds, compares, finds, surrounds, rowCounts, opens, shortens, misfits, offers, unites, refuses, intrudes, reads, breaks, dissolves, rejects, lists, joins}
 
 -- ---- equality and tests over lists, computed
 
@@ -130,7 +131,7 @@ digits : ℕ → ℕ → ℕ
 digits c x = x / 2 ^ (3 * (15 - resolutionOf x)) % 8 ^ (resolutionOf x - c) * 8 + edgeNumber x
 
 unfoldable pub holds : Example → Bool
-unfolding same allSame allPass stepsPass isRefusal slices placeOf remade changed shows fresh offered room digits below isCell isEdge isUnder walked summed noLarger found ringsAfresh groupsAfresh lent opened listed joined offer read dissolution
+unfolding same allSame allPass stepsPass isRefusal slices placeOf remade changed shows fresh offered room digits below isCell isEdge isUnder walked summed noLarger found ringsAfresh groupsAfresh lent opened listed joined offer read dissolved space dissolution
 holds (validCells valid invalid) = allPass isCell valid && allPass (λ x. not (isCell x)) invalid
 holds (validEdges valid invalid) = allPass isEdge valid && allPass (λ x. not (isEdge x)) invalid
 holds (pentagons bs) = same (below (λ b. not (isEdge (0x11001fffffffffff + b * 2 ^ 45))) 122) bs
@@ -144,17 +145,22 @@ holds (compares up level) =
     && stepsPass (λ x y. noLarger x y && noLarger y x) (headOr 0 level) (drop 1 level)
 holds (finds ps a root left) = let h = found ps a in eqb (h .root) root && same (h .parents) left
 holds (surrounds t cs ls ps gs) = same (map length (ringsAfresh t cs)) ls && same (groupsAfresh t cs ps) gs
+holds (rowCounts fit unfit) = allPass rowCountFits fit && allPass (λ n. not (rowCountFits n)) unfit
 holds (opens t slots places mode number index kept) =
     let o = opened t (lent t slots places) mode in
     isRefusal (o .answer) number index && eqb (keptMode (o .left)) kept
 holds (shortens t slots places slice) =
     let k = placeOf slice in
     let ls = slices (lent t slots places) in
-    isRefusal (opened t (remade (set ls k (drop 1 (getD ls k [])))) 0 .answer) 10 0
+    let m = remade (set ls k (drop 1 (getD ls k []))) in
+    let o = space 1 1 in
+    isRefusal (opened t m 0 .answer) 10 0 && isRefusal (offer t m 0 .answer) 10 0
+    && isRefusal (verdictOf (read t m o .answer)) 10 0 && isRefusal (verdictOf (dissolved t m 0 [] o .answer)) 10 0
 holds (misfits r) =
     let m = offered r .left in
     let o = room r in
-    let answered : Output → Bool = λ p. isRefusal (verdictOf (read (r .table) m p .answer)) 10 0 in
+    let answered : Output → Bool = λ p.
+    isRefusal (verdictOf (read (r .table) m p .answer)) 10 0 && isRefusal (verdictOf (dissolved (r .table) m (r .mode) (r .cells) p .answer)) 10 0 in
     answered (output (o .start) (drop 1 (o .size)) (o .group) (o .area) (o .edges))
     && answered (output (o .start) (o .size) (drop 1 (o .group)) (o .area) (o .edges))
     && answered (output (o .start) (o .size) (o .group) (drop 1 (o .area)) (o .edges))

@@ -10,7 +10,7 @@ use Rattle.scope_examples.proofs.ExampleTest.{every}
 use Rattle.scope_examples.proofs.MoreExamples.{bounds, states, coarser}
 use Rattle.scope_examples.proofs.Seven.{seven, centre, around}
 use Rattle.scope_examples.proofs.Mixed.{mixed, coarse, inside, beside, overBeside}
-use Rattle.scope_examples.proofs.Odd.{odd, fewReverses, fewTerms, withEdge, withReverse, withTerm, first, second, third, absent, underFirst, alsoUnderFirst, underSecond}
+use Rattle.scope_examples.proofs.Odd.{odd, couple, single, fewReverses, fewTerms, withEdge, withReverse, withTerm, first, second, third, absent, underFirst, alsoUnderFirst, underSecond}
 
 onSeven : ℕ → List ℕ → Offers
 onSeven slots cs = even seven slots 7 3 30 cs
@@ -35,11 +35,11 @@ documented =
     ∷ reads (onSeven 28 (take 2 around)) (outlined 1 (5 ∷ []) (10 ∷ []) (0 ∷ []) (0x3e3726950b290000 ∷ []))
     ∷ dissolves (onSeven 28 (take 2 around)) (outlined 1 (5 ∷ []) (10 ∷ []) (0 ∷ []) (0x3e3726950b290000 ∷ []))
     -- T8: six hexagons around an absent one
-    ∷ surrounds seven around (18 ∷ 6 ∷ []) (3 ∷ 5 ∷ []) (0 ∷ 0 ∷ [])
+    ∷ surrounds seven around (18 ∷ 6 ∷ []) (0 ∷ 1 ∷ 2 ∷ 3 ∷ 4 ∷ 5 ∷ []) (0 ∷ 0 ∷ 0 ∷ 0 ∷ 0 ∷ 0 ∷ [])
     ∷ reads (onSeven 28 around) (outlined 1 (1 ∷ 2 ∷ []) (18 ∷ 6 ∷ []) (0 ∷ 0 ∷ []) (0x3e5441fddeef6000 ∷ 0x402921fb542d063f ∷ []))
     ∷ offers (onSeven 27 around) 7 5
     -- T9: then the centre
-    ∷ surrounds seven (around ++ (centre ∷ [])) (18 ∷ []) (6 ∷ []) (0 ∷ [])
+    ∷ surrounds seven (around ++ (centre ∷ [])) (18 ∷ []) (0 ∷ 1 ∷ 2 ∷ 3 ∷ 4 ∷ 5 ∷ 6 ∷ []) (0 ∷ 0 ∷ 0 ∷ 0 ∷ 0 ∷ 0 ∷ 0 ∷ [])
     ∷ reads (onSeven 30 (around ++ (centre ∷ []))) (outlined 1 (1 ∷ []) (18 ∷ []) (0 ∷ []) (0x3e5441fddeef6000 ∷ []))
     ∷ offers (onSeven 29 (around ++ (centre ∷ []))) 7 6
     -- T10
@@ -56,5 +56,5 @@ unfolding documented bounds states coarser
 examples = documented ++ bounds ++ states ++ coarser
 
 examples-hold : T (every examples)
-unfolding every examples seven centre around mixed coarse inside beside overBeside odd fewReverses fewTerms withEdge withReverse withTerm first second third absent underFirst alsoUnderFirst underSecond
+unfolding every examples seven centre around mixed coarse inside beside overBeside odd couple single fewReverses fewTerms withEdge withReverse withTerm first second third absent underFirst alsoUnderFirst underSecond
 examples-hold = tt

@@ -5,11 +5,11 @@ use Prim.Native.Nat.{ℕ}
 use mathlib.Core.List.{List, [], _∷_}
 use lib.ListN.{take}
 use Rattle.scope.specs.Table.{table}
-use Rattle.scope_examples.proofs.ExampleKinds.{Example, validCells, validEdges, pentagons, nests, walks, compares, finds, surrounds, opens, shortens, misfits, offers, unites, refuses, intrudes, reads, breaks, dissolves, rejects, lists, joins}
+use Rattle.scope_examples.proofs.ExampleKinds.{Example, validCells, validEdges, pentagons, nests, walks, compares, finds, surrounds, rowCounts, opens, shortens, misfits, offers, unites, refuses, intrudes, reads, breaks, dissolves, rejects, lists, joins}
 use Rattle.scope_examples.proofs.ExampleKinds.{Offers, inMode, even, closed, refused, outlined, put, head, cells, parent, rank, cellMark, slotRow, slotCell, prev, next, rowSlot, rowMark}
 use Rattle.scope_examples.proofs.Seven.{seven, around}
 use Rattle.scope_examples.proofs.Mixed.{mixed, coarse, inside, beside, overBeside}
-use Rattle.scope_examples.proofs.Odd.{odd, fewReverses, fewTerms, withEdge, withReverse, withTerm, first, second, third, absent, underFirst, alsoUnderFirst, underSecond}
+use Rattle.scope_examples.proofs.Odd.{odd, couple, single, fewReverses, fewTerms, withEdge, withReverse, withTerm, first, second, third, absent, underFirst, alsoUnderFirst, underSecond}
 
 -- the standing edges of the 49 cells of resolution 9 under 872830828ffffff, and of the 41 of resolution 2 under the pentagon 08009fffffffffff, in
 -- the order of their one ring, as real tables of these resolutions have them
@@ -65,7 +65,11 @@ bounds =
     ∷ opens odd 11 3 3 10 0 7
     ∷ opens odd 0 3 0 10 0 7
     ∷ opens odd 11 0 0 10 0 7
+    ∷ opens odd 1 3 0 0 0 0
+    ∷ opens odd 11 1 0 0 0 0
+    ∷ opens odd 65536 3 0 0 0 0
     ∷ opens odd 65537 3 0 10 0 7
+    ∷ opens odd 11 16384 0 0 0 0
     ∷ opens odd 11 16385 0 10 0 7
     ∷ opens fewReverses 11 3 0 10 0 7
     ∷ opens fewTerms 11 3 0 10 0 7
@@ -80,8 +84,11 @@ bounds =
     ∷ shortens odd 11 3 next
     ∷ shortens odd 11 3 rowSlot
     ∷ shortens odd 11 3 rowMark
-    -- no row at all
+    -- no row at all, one, two; and the most
     ∷ opens (table [] [] []) 11 3 0 1 0 7
+    ∷ opens single 11 3 0 1 0 7
+    ∷ opens couple 11 3 0 0 0 0
+    ∷ rowCounts (2 ∷ 65536 ∷ []) (0 ∷ 1 ∷ 65537 ∷ [])
     -- the lowest bad row: out of order the later, not valid, reverse out of range, itself, not naming back, area term not finite
     ∷ opens (withEdge 4 0x11007fffffffffff) 11 3 0 1 4 7
     ∷ opens (withEdge 5 0x12009ffffffffffe) 11 3 0 1 5 7
@@ -135,8 +142,13 @@ states =
     -- dissolve refused by its list's checks writes nothing
     ∷ rejects (even odd 10 3 4 8 (first ∷ first ∷ [])) 3 1
     ∷ rejects (inMode 3 odd 10 3 4 8 (first ∷ [])) 10 0
-    -- 8, 5, 7
+    ∷ rejects (even odd 9 1 4 8 (first ∷ second ∷ [])) 8 0
+    ∷ rejects (even odd 10 1 4 8 (first ∷ absent ∷ [])) 8 0
+    -- refused by 5 it leaves the memory newly opened
+    ∷ dissolves (even odd 10 3 4 8 (first ∷ absent ∷ [])) (refused 5 1)
+    -- 8 before 5 and before 7; then 5, 7
     ∷ refuses (even odd 11 1 4 8 (first ∷ [])) absent 8 0
+    ∷ refuses (even odd 9 1 4 8 (first ∷ [])) second 8 0
     ∷ refuses (even odd 5 3 4 8 []) absent 5 0
     ∷ refuses (even odd 9 3 4 8 (first ∷ [])) second 7 1
     -- the new cell is united with the held one, in that order, and the rank grows also where ranks are unequal

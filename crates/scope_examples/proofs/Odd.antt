@@ -57,6 +57,15 @@ unfoldable pub odd : Table
 unfolding edgeNumbers reverseRows terms
 odd = table edgeNumbers reverseRows terms
 
+-- edge 1 of the first two hexagons, each the other's reverse; and the first of these alone
+unfoldable pub couple : Table
+unfolding edgeNumbers terms
+couple = table (take 2 edgeNumbers) (1 ∷ 0 ∷ []) (take 2 terms)
+
+unfoldable pub single : Table
+unfolding edgeNumbers terms
+single = table (take 1 edgeNumbers) (0 ∷ []) (take 1 terms)
+
 -- ---- tables that break a rule: the last reverse or area term is missing; one row's edge, reverse or area term is another
 
 unfoldable pub fewReverses : Table

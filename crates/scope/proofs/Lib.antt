@@ -98,16 +98,18 @@ pub mod ViewsAlike
 pub mod WhateverOrder
 pub mod Dissolving
 pub mod DissolveRuns
-pub mod Refused
-pub mod EightFirst
 pub mod Begun
 pub mod ShownAfresh
 pub mod Counts
+pub mod RingsLeft
+-- Demand 2: what is answered and written is drawn afresh from the accepted cells
 pub mod Drawn
 pub mod DrawnRows
 pub mod ShownDrawn
 pub mod Written
-pub mod RingsLeft
+-- Demand 1: what a refused call leaves
+pub mod Refused
+pub mod EightFirst
 -- Room that is always enough
 pub mod EnoughRoom
 pub mod EnoughSlots

@@ -1,6 +1,6 @@
 // The cells of a feed, offered one by one, with a tally of the verdicts by their numbers.
 use scope::Verdict;
-use solvent::offer;
+use standing::offer;
 ghost use mathlib.Core.Path.{_≡_};
 ghost use Prim.Native.Nat.{_+_, _≤_, _<_, _^_};
 ghost use lib.ListN.{length, set, replicate};

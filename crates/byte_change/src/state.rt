@@ -1,8 +1,8 @@
 // A change of a decoded state, open or offer, and the state back into its bytes unless the call is refused.
 use answers::is_accepted;
 use scope::Verdict;
-use solvent::offer;
-use solvent::open;
+use standing::offer;
+use standing::open;
 use wire::columns::encode_state;
 use wire::numbers::result;
 ghost use mathlib.Core.Path.{_≡_};

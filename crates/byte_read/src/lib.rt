@@ -1,6 +1,6 @@
 // Read out on the bytes of a standing state within the host's limits: table and state decoded into local arrays, one for each column,
 // and what is read out into the bytes of an output.
-use solvent::read_out;
+use standing::read_out;
 use wire::columns::decode_state;
 use wire::columns::decode_table;
 use wire::reading::show;

@@ -9,8 +9,8 @@ use Rattle.scope.specs.declared.ReadOut.the-variants.{Nothing, Closed, Outline,
 use Rattle.scope.specs.Lists.{at}
 use Rattle.scope.specs.Bytes.{joined}
 use Rattle.text.specs.Text.{ascii}
-use Rattle.report.specs.Notes.{noted}
-use Rattle.report.specs.Refusals.{refusalWords}
+use Rattle.note_text.specs.Notes.{noted}
+use Rattle.refusal_text.specs.Refusals.{refusalWords}
 use Rattle.audit.specs.Feed.{acceptedIn, replaysIn, pointsUnchecked, pointsCredited, pointsOver}
 
 -- ---- the offers

@@ -1,6 +1,6 @@
 // What an audit says, as text into a lent slice.
-use report::notes::put_noted;
-use report::refusals::put_words;
+use note_text::put_noted;
+use refusal_text::put_words;
 use scope::ReadOut;
 use text::put_bytes;
 ghost use mathlib.Core.Path.{_≡_};

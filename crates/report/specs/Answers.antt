@@ -9,9 +9,9 @@ use Rattle.scope.specs.declared.ReadOut.{ReadOut}
 use Rattle.scope.specs.declared.ReadOut.the-variants.{Nothing, Closed, Outline, Refused}
 use Rattle.scope.specs.Lists.{at}
 use Rattle.text.specs.Text.{ascii}
-use Rattle.report.specs.Notes.{noted}
-use Rattle.report.specs.Outlines.{standing, summaryText, ringsText}
-use Rattle.report.specs.Refusals.{refusalText}
+use Rattle.note_text.specs.Notes.{noted}
+use Rattle.outline_text.specs.Outlines.{standing, summaryText, ringsText}
+use Rattle.refusal_text.specs.Refusals.{refusalText}
 
 abbrev pub nothingText : List ℕ
 nothingText = ascii "nothing: the list has no cells\n"

@@ -9,7 +9,7 @@ use Rattle.cell_text.specs.declared.Ending.{Ending}
 use Rattle.cell_text.specs.declared.Ending.the-variants as ending
 use Rattle.table_bytes.specs.declared.TableFile.{TableFile}
 use Rattle.table_bytes.specs.declared.TableFile.the-variants as file
-use Rattle.report.specs.Notes.{noted}
+use Rattle.note_text.specs.Notes.{noted}
 
 -- by what the system says of the file
 unfoldable pub unreadableWords : Reason → List ℕ

@@ -1,24 +1,16 @@
 // What a call answered, as text.
-use crate::notes::put_noted;
-use crate::outlines::put_rings;
-use crate::outlines::put_summary;
-use crate::outlines::standing;
-use crate::refusals::put_refusal;
+use note_text::put_noted;
+use outline_text::line_at;
+use outline_text::put_rings;
+use outline_text::put_summary;
+use outline_text::standing;
+use refusal_text::put_refusal;
 use scope::ReadOut;
 use text::put_bytes;
-ghost use mathlib.Core.Path.{_≡_};
 ghost use Prim.Native.Nat.{_≤_};
 ghost use lib.ListN.{length};
-ghost use Rattle.scope.specs.Lists.{at};
 ghost use Rattle.text.specs.Text.{Wrote};
 ghost use Rattle.report.specs.Answers.{nothingText, closedText, countedText, outlineText};
-
-// The line of a cell, 0 past the end.
-pub fn line_at(lines: &[usize], index: usize) -> usize
-    ensures { λ r. ⌜ r ≡ at (now (lines .entry)) index ⌝ }
-{
-    if index < lines.len() { lines[index] } else { 0 }
-}
 
 // An outline of so many cells: what it counts, then each ring.
 fn put_counted(

@@ -1,7 +1,7 @@
 // Files that cannot be taken, in words.
-use crate::notes::put_noted;
 use cell_text::Ending;
 use files::Reason;
+use note_text::put_noted;
 use table_bytes::TableFile;
 use text::put_bytes;
 ghost use Prim.Native.Nat.{_≤_};

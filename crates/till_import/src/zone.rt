@@ -2,7 +2,7 @@
 use desk::words::Report;
 use edge_table::check_table;
 use full_size::dissolve_list;
-use report::refusals::put_refusal;
+use refusal_text::put_refusal;
 use scope::Verdict;
 use zone_lines::Told;
 use zone_lines::tell_zone;

@@ -6,7 +6,7 @@ use desk::arrays::ring_numbers;
 use desk::words::Report;
 use desk::words::say_report;
 use feed_audit::audit;
-use report::refusals::put_refusal;
+use refusal_text::put_refusal;
 use scope::ReadOut;
 use scope::Verdict;
 ghost use Prim.Native.Nat.{_≤_, _<_, _^_};

@@ -7,8 +7,8 @@ use Rattle.scope.specs.declared.ReadOut.the-variants.{Outline, Refused}
 use Rattle.scope.specs.Bytes.{joined}
 use Rattle.scope.specs.Memory.{output}
 use Rattle.text.specs.Text.{ascii, numeralIn, numeral}
-use Rattle.report.specs.Notes.{areaDecimal}
-use Rattle.report.specs.Refusals.{refusalWords, refusalPlace, refusalText}
+use Rattle.note_text.specs.Notes.{areaDecimal}
+use Rattle.refusal_text.specs.Refusals.{refusalWords, refusalPlace, refusalText}
 use Rattle.zone_lines.specs.Rings.{edgeWord, edgeWords, ringName, ringLine}
 use Rattle.zone_lines.specs.Zones.{countsText, zoneText}
 

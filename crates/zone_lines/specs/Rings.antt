@@ -10,8 +10,8 @@ use Rattle.scope.specs.Lists.{at}
 use Rattle.scope.specs.Memory.{Output}
 use Rattle.scope.specs.Bytes.{joined}
 use Rattle.text.specs.Text.{ascii, hexadecimal}
-use Rattle.report.specs.Notes.{noted, areaText}
-use Rattle.report.specs.Outlines.{begins}
+use Rattle.note_text.specs.Notes.{noted, areaText}
+use Rattle.outline_text.specs.Outlines.{begins}
 
 unfoldable pub edgeWord : List ℕ → ℕ → List ℕ
 edgeWord edges row = ascii " " ++ hexadecimal (at edges row)

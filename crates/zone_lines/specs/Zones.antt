@@ -9,9 +9,9 @@ use Rattle.scope.specs.declared.ReadOut.the-variants.{Nothing, Closed, Outline,
 use Rattle.scope.specs.Lists.{at}
 use Rattle.scope.specs.Memory.{Output}
 use Rattle.text.specs.Text.{ascii}
-use Rattle.report.specs.Notes.{noted, areaText}
-use Rattle.report.specs.Outlines.{standing}
-use Rattle.report.specs.Refusals.{refusalText}
+use Rattle.note_text.specs.Notes.{noted, areaText}
+use Rattle.outline_text.specs.Outlines.{standing}
+use Rattle.refusal_text.specs.Refusals.{refusalText}
 use Rattle.zone_lines.specs.Rings.{ringLines}
 
 -- what an outline counts

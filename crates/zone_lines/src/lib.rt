@@ -3,11 +3,11 @@
 mod rings;
 
 use answers::is_done;
-use report::answers::line_at;
-use report::notes::put_area;
-use report::notes::put_noted;
-use report::outlines::standing;
-use report::refusals::put_refusal;
+use note_text::put_area;
+use note_text::put_noted;
+use outline_text::line_at;
+use outline_text::standing;
+use refusal_text::put_refusal;
 use rings::put_ring_lines;
 use scope::ReadOut;
 use text::put_bytes;

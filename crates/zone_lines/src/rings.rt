@@ -1,9 +1,9 @@
 // The rings of a zone, each as a list on one line.
-use report::notes::put_area;
-use report::notes::put_noted;
-use report::outlines::area_at;
-use report::outlines::begins;
-use report::outlines::edge_at;
+use note_text::put_area;
+use note_text::put_noted;
+use outline_text::area_at;
+use outline_text::begins;
+use outline_text::edge_at;
 use slices::at32;
 use text::put_bytes;
 use text::put_numeral;

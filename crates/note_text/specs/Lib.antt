@@ -1,0 +1,2 @@
+-- A number between words, and an area.
+pub mod Notes

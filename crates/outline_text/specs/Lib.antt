@@ -1,0 +1,2 @@
+-- An outline as text.
+pub mod Outlines

@@ -30,6 +30,7 @@ use Rattle.free_slots.specs.Search.{digitAt, Flags}
 use Rattle.free_slots.proofs.Digits.{ones-digit}
 use Rattle.arcs.specs.Place.{freeIn}
 use Rattle.taking.specs.declared.take.Taken.{Taken}
+use Rattle.taking.specs.Outlines.{Room}
 use Rattle.taking.specs.Taking.{TakeAsks, Takes, ListAsks, ScratchAsks, TakesAll}
 use Rattle.taking.proofs.Sizes.{Sized, sized-refl, sized-on}
 
@@ -67,7 +68,7 @@ pub record InTurn (t : Table) (m₀ : Memory) (cs : List ℕ) (m : Memory) (rows
   pub free-count : free ≡ length (freeSlots m)
   pub flags : Flags full (m .slotRow)
   pub long-full : length full ≡ 1024
-  pub room : rowCount t ≤ length rows
+  pub room : (j : ℕ) → j < length cs → Room (t .edges) (at cs j) rows
   pub sized : Sized m₀ m
 
 -- every slot is flagged at first
@@ -106,7 +107,7 @@ module _ {t : Table} {m₀ m : Memory} {cs rows full : List ℕ} {free i : ℕ} 
         (subst (λ (l : List ℕ). listVerdict (keptMode m) (targetOf t) (places m) (heldCells m ++ l) ≡ Accepted) next (I .asks .list))
 
     pub turn-asks : TakeAsks t m rows full (at cs i) free
-    turn-asks = record { sound = I .asks .sound; cell = in-list .1; free-count = I .free-count; flags = I .flags; room = I .room }
+    turn-asks = record { sound = I .asks .sound; cell = in-list .1; free-count = I .free-count; flags = I .flags; room = I .room i h }
 
     module _ {r : Taken} {m′ : Memory} {full′ : List ℕ} (T : Takes t m (at cs i) r m′ full′) where
       done : record { answer = r .verdict; left = m′ } ≡ offering t m (at cs i)
@@ -140,6 +141,6 @@ module _ {t : Table} {m₀ m : Memory} {cs rows full : List ℕ} {free i : ℕ} 
           free-count = T .free-count;
           flags = T .flags;
           long-full = f ∙ I .long-full;
-          room = omega (arith, I .room, k);
+          room = λ j l. record { fits = λ n a b. let s = I .room j l .fits n a b in omega arith };
           sized = sized-on (I .sized) z;
         }

@@ -1,5 +1,6 @@
 -- Laws that the proofs of this crate and of the calls share.
 pub mod Walked
+pub mod Rooms
 pub mod Marking
 pub mod Looking
 pub mod Clearing

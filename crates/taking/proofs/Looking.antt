@@ -20,7 +20,7 @@ use Rattle.scope.proofs.Tests.{clash}
 use Rattle.scope.proofs.Members.{mem-dec}
 use Rattle.taking.specs.declared.outline.Outlined.{Outlined}
 use Rattle.taking.specs.Outlines.{rowsOf, OutlineAsks, Marks, RowAsks, StoresRow, Finds, FindsMarked}
-use Rattle.taking.proofs.Walked.{Walked, walked-start, walked-inside, walked-room, walked-new, walked-again, walked-absent, walked-all, walked-rows, walked-twice}
+use Rattle.taking.proofs.Walked.{Walked, walked-start, walked-inside, walked-few, walked-room, walked-new, walked-again, walked-absent, walked-all, walked-rows, walked-twice}
 
 -- ---- what the search for an edge's row says
 
@@ -46,6 +46,7 @@ pub record Looking (es mark₀ rows₀ : List ℕ) (x : ℕ) (mark rows left : L
   pub marks-long : length mark ≡ length mark₀
   pub rows-long : length rows ≡ length rows₀
   pub count-in : count ≤ length es
+  pub stored-in : count ≤ length rows
   pub marks : Marks mark (take count rows)
   pub walked : Walked es (outline x (resolutionOf (at es 0))) left (take count rows) twice
 
@@ -55,6 +56,7 @@ module _ {es mark₀ rows₀ : List ℕ} {x : ℕ} (asks : OutlineAsks es mark�
     marks-long = refl;
     rows-long = refl;
     count-in = omega arith;
+    stored-in = omega arith;
     marks = record { on = λ a m. absurd (List·Memᴰ·not-nil m); off = λ a n. asks .clear a };
     walked = rw q (walked-start es (outline x (resolutionOf (at es 0))));
   }
@@ -64,14 +66,14 @@ module _ {es mark₀ rows₀ : List ℕ} {x : ℕ} (asks : OutlineAsks es mark�
     here = subst (λ (l : List ℕ). Walked es (outline x (resolutionOf (at es 0))) l (take count rows) twice) q (L .walked)
 
     stored-many : length (take count rows) ≡ count
-    stored-many = length-take-le count rows (let a = L .rows-long in let b = asks .room in let c = L .count-in in omega arith)
+    stored-many = length-take-le count rows (L .stored-in)
 
     pub looking-absent : Absent ≡ findRow es e → FindsMarked es x mark rows (record { count = count; absent = true; twice = twice })
     looking-absent f =
         let gone = walked-absent here (row-missed es e f) in
         record {
           found = record {
-            count-in = let a = L .rows-long in let b = asks .room in let c = L .count-in in omega arith;
+            count-in = L .stored-in;
             absent = sym (ap not gone);
             twice = λ z. absurd (clash refl z);
             stored = λ z. absurd (clash refl z);
@@ -84,18 +86,27 @@ module _ {es mark₀ rows₀ : List ℕ} {x : ℕ} (asks : OutlineAsks es mark�
       row-low : row < length es
       row-low = let r = row-found es e row f in omega (arith, r .0, r .1)
 
+      -- a row that is not stored has room, in the table and in the outline
+      new-room : (List·Memᴰ (rowOf es e) (take count rows) → ⊥) → count + 1 ≤ length rows
+      new-room fresh =
+          let s = stored-many in
+          let a = walked-room here (row-found es e row f .1) fresh in
+          let b = walked-few here in
+          let k = asks .room .fits (count + 1) (omega arith) (omega arith) in
+          omega (arith, k, L .rows-long)
+
       pub looking-row : RowAsks mark rows count row
       looking-row =
           let r = row-found es e row f in
-          let a = L .rows-long in let b = asks .room in let k = row-low in let l = L .marks-long in
+          let k = row-low in let l = L .marks-long in
           record {
             row-in = omega (arith, asks .marks);
             row-small = omega (arith, asks .most);
             marks = L .marks;
             room = λ z.
-                let n = walked-room here (r .1) (λ m. let o = L .marks .on (rowOf es e) m in let v : at mark (rowOf es e) ≡ 0 = subst (λ (k : ℕ). at mark k ≡ 0) (r .0) z in omega arith) in
-                let s = stored-many in omega arith;
-            count-in = let c = L .count-in in omega arith;
+                let n = new-room (λ m. let o = L .marks .on (rowOf es e) m in let v : at mark (rowOf es e) ≡ 0 = subst (λ (k : ℕ). at mark k ≡ 0) (r .0) z in omega arith) in
+                omega arith;
+            count-in = L .stored-in;
           }
 
       module _ {mark′ rows′ : List ℕ} {new : Bool} (S : StoresRow mark rows count row mark′ rows′ new) (ml : length mark′ ≡ length mark) (rl : length rows′ ≡ length rows) where
@@ -104,11 +115,13 @@ module _ {es mark₀ rows₀ : List ℕ} {x : ℕ} (asks : OutlineAsks es mark�
             let r = row-found es e row f in
             let fresh : List·Memᴰ (rowOf es e) (take count rows) → ⊥ = λ m. S .fresh t (rw (r .0) m) in
             let room = walked-room here (r .1) fresh in
+            let n = new-room fresh in
             let s = stored-many in
             record {
               marks-long = ml ∙ L .marks-long;
               rows-long = rl ∙ L .rows-long;
               count-in = omega arith;
+              stored-in = omega (arith, n, rl);
               marks = S .marked t;
               walked = rw (S .stored t, r .0) (walked-new here (r .1) fresh);
             }
@@ -120,6 +133,7 @@ module _ {es mark₀ rows₀ : List ℕ} {x : ℕ} (asks : OutlineAsks es mark�
               marks-long = ml ∙ L .marks-long;
               rows-long = rl ∙ L .rows-long;
               count-in = L .count-in;
+              stored-in = omega (arith, L .stored-in, rl);
               marks = rw (S .same-marks t, S .same-rows t) (L .marks);
               walked = rw (S .same-rows t) (walked-again here (r .1) (subst (λ (k : ℕ). List·Memᴰ k (take count rows)) (r .0) (S .again t)));
             }
@@ -130,7 +144,7 @@ module _ {es mark₀ rows₀ : List ℕ} {x : ℕ} (asks : OutlineAsks es mark�
       let w = subst (λ (l : List ℕ). Walked es (outline x (resolutionOf (at es 0))) l (take count rows) twice) (empty left z) (L .walked) in
       record {
         found = record {
-          count-in = let a = L .rows-long in let b = asks .room in let c = L .count-in in omega arith;
+          count-in = L .stored-in;
           absent = sym (ap not (walked-all w));
           twice = λ _. walked-twice w;
           stored = λ _ t. walked-rows w t;

@@ -70,7 +70,7 @@ module _ {t : Table} {m : Memory} {rows full : List ℕ} {x free : ℕ} (asks : 
         most = T .most;
         marks = asks .sound .lengths .row-mark;
         clear = marks-all (asks .sound);
-        room = omega (arith, T .most, asks .room);
+        room = asks .room;
       }
 
   module _ {rows′ : List ℕ} {r : Outlined} (f : Finds (t .edges) x rows′ r) where

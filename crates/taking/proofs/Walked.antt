@@ -1,6 +1,6 @@
 -- The walk over an outline's edges, as lists: which rows have been stored, whether one was named twice, and what that says at the end.
 --     Walked es whole rest stored twice     the edges `rest` of `whole` are left
---     walked-start, walked-new, walked-again     the moves of the loop; `walked-room`: a new row has room
+--     walked-start, walked-new, walked-again     the moves of the loop; `walked-few`, `walked-room`: a new row has room
 --     walked-absent, walked-all, walked-twice, walked-rows     what the outline's rows then are
 -- Assumes nothing.
 use mathlib.Core.Path.{_≡_, refl, sym, _∙_, ap, subst}
@@ -10,7 +10,7 @@ use mathlib.Core.List.{List, [], _∷_, _++_, map, append-assoc, append-nil, Lis
 use Prim.Native.Nat.{ℕ, suc, _+_, _<_, _≤_}
 use native.Mathlib.Omega.{arith}
 use lib.Dec.{ltb}
-use lib.ListN.{length, length-append}
+use lib.ListN.{length, length-append, length-map}
 use lib.Seq.{getD-append-seam}
 use borrow.Author.Tests.{lt-ltb, le-ltb}
 use Rattle.scope.specs.Lists.{at}
@@ -19,7 +19,7 @@ use Rattle.scope.specs.Pool.{namesTwice}
 use Rattle.scope.proofs.Tests.{either, clash}
 use Rattle.scope.proofs.Scan.{passes-all, passes-not}
 use Rattle.scope.proofs.Members.{Fresh, fresh-last, fresh-front, fresh-test, member-false, mem-at}
-use Rattle.scope.proofs.Pigeonhole.{fresh-length}
+use Rattle.scope.proofs.Pigeonhole.{fresh-length, fresh-within}
 use Rattle.scope.proofs.Below.{map-append}
 use Rattle.taking.specs.Outlines.{allIn}
 
@@ -45,6 +45,15 @@ walked-start es whole = record {
 
 pub walked-inside : {es whole rest stored : List ℕ} {twice : Bool} → Walked es whole rest stored twice → (a : ℕ) → List·Memᴰ a stored → a < length es
 walked-inside w a m = w .present a (w .seen-row a m)
+
+-- no more rows are stored than edges were walked
+pub walked-few : {es whole rest stored : List ℕ} {twice : Bool} → Walked es whole rest stored twice → length stored + length rest ≤ length whole
+walked-few {es} {whole} {rest} {stored} w =
+    let a = fresh-within stored (map (rowOf es) (w .seen)) (w .fresh) (w .seen-row) in
+    let b = length-map (w .seen) (rowOf es) in
+    let c = length-append (w .seen) rest in
+    let d = ap length (w .cut) in
+    omega arith
 
 -- ---- one edge more
 

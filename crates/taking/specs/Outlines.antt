@@ -1,10 +1,10 @@
 -- A cell's outline as rows: what is asked of the slices, and what is found.
 -- Assumes nothing.
 use mathlib.Core.Path.{_≡_}
-use mathlib.Core.Bool.{Bool, true, false, not}
+use mathlib.Core.Bool.{Bool, true, false, _&&_, not}
 use mathlib.Core.List.{List, [], _∷_, _++_, map, List·Memᴰ}
 use Prim.Native.Nat.{ℕ, _+_, _^_, _<_, _≤_}
-use lib.Dec.{ltb}
+use lib.Dec.{leb, ltb}
 use lib.ListN.{length, take}
 use Rattle.scope.specs.Lists.{at, passes}
 use Rattle.scope.specs.Cells.{resolutionOf, validCell}
@@ -20,7 +20,22 @@ rowsOf es x = map (rowOf es) (outline x (resolutionOf (at es 0)))
 abbrev pub allIn : List ℕ → List ℕ → Bool
 allIn es o = passes (λ i. ltb (at o i) (length es)) (length o)
 
--- A valid cell, a table in order, marks that are clear, and room for every row.
+-- Room for an outline's rows: for as many as both the table and the outline have.
+pub record Room (es : List ℕ) (x : ℕ) (rows : List ℕ) : Type 0 where
+  pub fits : (n : ℕ) → n ≤ length es → n ≤ length (outline x (resolutionOf (at es 0))) → n ≤ length rows
+
+-- A cell at most four resolutions coarser than the target has at most 6 · 3^4 edges in its outline.
+abbrev pub isNear : ℕ → ℕ → Bool
+isNear target x = leb target (resolutionOf x + 4)
+
+abbrev pub nearAt : ℕ → List ℕ → ℕ → Bool
+nearAt target cs i = isNear target (at cs i)
+
+-- A few cells, and each of them near.
+unfoldable pub shortOutlines : ℕ → List ℕ → Bool
+shortOutlines target cs = ltb (length cs) 8 && passes (nearAt target cs) (length cs)
+
+-- A valid cell, a table in order, marks that are clear, and room for the rows.
 pub record OutlineAsks (es mark rows : List ℕ) (x : ℕ) : Type 0 where
   pub valid : validCell x ≡ true
   pub sorted : passes (ascends es) (length es) ≡ true
@@ -28,7 +43,7 @@ pub record OutlineAsks (es mark rows : List ℕ) (x : ℕ) : Type 0 where
   pub most : length es ≤ 65536
   pub marks : length mark ≡ length es
   pub clear : (a : ℕ) → at mark a ≡ 0
-  pub room : length es ≤ length rows
+  pub room : Room es x rows
 
 -- Whether an edge is absent; where none is, whether one is named twice; where neither, the outline's rows.
 pub record Finds (es : List ℕ) (x : ℕ) (rows : List ℕ) (r : Outlined) : Type 0 where

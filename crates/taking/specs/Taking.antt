@@ -3,9 +3,10 @@
 use mathlib.Core.Path.{_≡_}
 use mathlib.Core.Bool.{Bool, true, false, not, cond}
 use mathlib.Core.List.{List, _++_}
-use Prim.Native.Nat.{ℕ, _≤_}
+use Prim.Native.Nat.{ℕ, _<_, _≤_}
 use lib.Dec.{leb, ltb}
 use lib.ListN.{length}
+use Rattle.scope.specs.Lists.{at}
 use Rattle.scope.specs.declared.Verdict.{Verdict}
 use Rattle.scope.specs.declared.Verdict.the-variants.{Accepted}
 use Rattle.scope.specs.Answers.{require, _▷_}
@@ -18,6 +19,7 @@ use Rattle.scope.proofs.Sound.{Sound}
 use Rattle.free_slots.specs.Search.{Flags}
 use Rattle.taking.specs.declared.outline.Outlined.{Outlined}
 use Rattle.taking.specs.declared.take.Taken.{Taken}
+use Rattle.taking.specs.Outlines.{Room, shortOutlines}
 
 -- 5, 6, 7 of what was found
 unfoldable pub outlineAnswer : Outlined → ℕ → ℕ → Verdict
@@ -29,7 +31,7 @@ pub record TakeAsks (t : Table) (m : Memory) (rows full : List ℕ) (x free : �
   pub cell : cellVerdict (keptMode m) (targetOf t) (places m) (heldCells m) x ≡ Accepted
   pub free-count : free ≡ length (freeSlots m)
   pub flags : Flags full (m .slotRow)
-  pub room : rowCount t ≤ length rows
+  pub room : Room (t .edges) x rows
 
 -- Refused by 5, 6 or 7, or with one more cell; and how many slots are free then, none of them in flagged blocks.
 pub record Takes (t : Table) (m : Memory) (x : ℕ) (r : Taken) (m′ : Memory) (full′ : List ℕ) : Type 0 where
@@ -42,15 +44,20 @@ pub record ListAsks (t : Table) (m : Memory) (cs : List ℕ) : Type 0 where
   pub sound : Sound t m
   pub list : listVerdict (keptMode m) (targetOf t) (places m) (heldCells m ++ cs) ≡ Accepted
 
--- The same, with room for the rows of an outline.
+-- The same, with room for the rows of each outline.
 pub record ScratchAsks (t : Table) (m : Memory) (rows cs : List ℕ) : Type 0 where
   pub asks : ListAsks t m cs
-  pub room : rowCount t ≤ length rows
+  pub room : (i : ℕ) → i < length cs → Room (t .edges) (at cs i) rows
 
 -- The same, for a table of at most n rows.
 pub record FewAsks (t : Table) (m : Memory) (cs : List ℕ) (n : ℕ) : Type 0 where
   pub asks : ListAsks t m cs
   pub few : rowCount t ≤ n
+
+-- The same, for a few cells with short outlines.
+pub record ShortAsks (t : Table) (m : Memory) (cs : List ℕ) : Type 0 where
+  pub asks : ListAsks t m cs
+  pub short : shortOutlines (targetOf t) cs ≡ true
 
 -- What offers in list order leave; where none is refused the state is sound again.
 pub record TakesAll (t : Table) (m : Memory) (cs : List ℕ) (v : Verdict) (m′ : Memory) : Type 0 where

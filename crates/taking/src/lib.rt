@@ -8,16 +8,18 @@ use list::take_noted;
 use scope::Verdict;
 use scratch::blank_notes;
 use scratch::blank_rows;
+use scratch::short_outlines;
 ghost use Rattle.scope.specs.Table.{table};
 ghost use Rattle.scope.specs.Memory.{memory};
-ghost use Rattle.taking.specs.Taking.{ListAsks, FewAsks, TakesAll};
+ghost use Rattle.taking.specs.Taking.{ListAsks, FewAsks, ShortAsks, TakesAll};
 
 // Rows of a small table, and notes for them.
 const FEW_ROWS: usize = 4096;
 
 const FEW_NOTES: usize = 16384;
 
-const FEW_CELLS: usize = 8;
+// The most edges of a short outline.
+const FEW_EDGES: usize = 486;
 
 // A local array is cleared at every call, so small tables have small ones.
 fn take_few(
@@ -63,7 +65,7 @@ fn take_few(
     )
 }
 
-// A few cells, as an offer's one, are sooner looked up than the rows noted: there is no place for notes.
+// A few cells, as an offer's one, are sooner looked up than the rows noted: there is no place for notes, and little for rows.
 fn take_some(
     edges: &[u64],
     reverse: &[u32],
@@ -81,10 +83,10 @@ fn take_some(
     row_mark: &mut [u32],
     list: &[u64],
 ) -> Verdict
-    requires { ⌜ ListAsks (table (now edges) (now reverse) (now area)) (memory (now head) (now cells) (now parent) (now rank) (now «cell_mark») (now «slot_row») (now «slot_cell») (now prev) (now next) (now «row_slot») (now «row_mark»)) (now list) ⌝ }
+    requires { ⌜ ShortAsks (table (now edges) (now reverse) (now area)) (memory (now head) (now cells) (now parent) (now rank) (now «cell_mark») (now «slot_row») (now «slot_cell») (now prev) (now next) (now «row_slot») (now «row_mark»)) (now list) ⌝ }
     ensures { λ r. ⌜ TakesAll (table (now (edges .entry)) (now (reverse .entry)) (now (area .entry))) (memory (now (head .entry)) (now (cells .entry)) (now (parent .entry)) (now (rank .entry)) (now («cell_mark» .entry)) (now («slot_row» .entry)) (now («slot_cell» .entry)) (now (prev .entry)) (now (next .entry)) (now («row_slot» .entry)) (now («row_mark» .entry))) (now (list .entry)) r (memory (now (head .exit)) (now (cells .exit)) (now (parent .exit)) (now (rank .exit)) (now («cell_mark» .entry)) (now («slot_row» .exit)) (now («slot_cell» .exit)) (now (prev .exit)) (now (next .exit)) (now («row_slot» .exit)) (now («row_mark» .exit))) ⌝ }
 {
-    let mut rows = blank_rows();
+    let mut rows = [0u32; FEW_EDGES];
     let mut none = [0u32; 1];
     take_noted(
         edges,
@@ -171,7 +173,7 @@ fn take_large(
     requires { ⌜ ListAsks (table (now edges) (now reverse) (now area)) (memory (now head) (now cells) (now parent) (now rank) (now «cell_mark») (now «slot_row») (now «slot_cell») (now prev) (now next) (now «row_slot») (now «row_mark»)) (now list) ⌝ }
     ensures { λ r. ⌜ TakesAll (table (now (edges .entry)) (now (reverse .entry)) (now (area .entry))) (memory (now (head .entry)) (now (cells .entry)) (now (parent .entry)) (now (rank .entry)) (now («cell_mark» .entry)) (now («slot_row» .entry)) (now («slot_cell» .entry)) (now (prev .entry)) (now (next .entry)) (now («row_slot» .entry)) (now («row_mark» .entry))) (now (list .entry)) r (memory (now (head .exit)) (now (cells .exit)) (now (parent .exit)) (now (rank .exit)) (now («cell_mark» .entry)) (now («slot_row» .exit)) (now («slot_cell» .exit)) (now (prev .exit)) (now (next .exit)) (now («row_slot» .exit)) (now («row_mark» .exit))) ⌝ }
 {
-    if list.len() < FEW_CELLS {
+    if short_outlines(edges, list) {
         return take_some(
             edges,
             reverse,

@@ -2,6 +2,7 @@
 -- Assumes nothing.
 use native.Mathlib.Omega.{arith}
 use Rattle.scope.proofs.Sound.{sound-table}
+use Rattle.taking.proofs.Rooms.{room-all}
 use borrow.Author.Needs.{needs}
 use Rattle.taking.proofs.take_many.Statement.{statement}
 use Rattle.taking.proofs.take_many.Tie as tie
@@ -20,8 +21,8 @@ slice-aggregate-take-noted-2 c = search needs
 
 take-noted-requires : tie.Need-take-noted-requires
 take-noted-requires c κs =
-    let asks = c .before .before .before .before .before .before .before .before .before .before .before .before .before .before .before .before .before .before .before .before .before .before .before .before .before .before .before .before .before .pre in
-    record { asks = asks; room = omega (arith, sound-table (asks .sound) .most, c .before .before .before .before .before .before .before .before .before .before .before .before .before .blank-rows .ensures) }
+    let p = c .before .before .before .before .before .before .before .before .before .before .before .before .before .before .before .before .before .before .before .before .before .before .before .before .before .before .before .before .before .pre in
+    record { asks = p; room = λ i h. room-all (omega (arith, sound-table (p .sound) .most, c .before .before .before .before .before .before .before .before .before .before .before .before .before .blank-rows .ensures)) }
 
 same-length : tie.Need-same-length
 same-length c = search needs

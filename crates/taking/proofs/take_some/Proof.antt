@@ -1,13 +1,14 @@
--- `taking::take_some` meets its contract. There is room for the rows of the largest table.
+-- `taking::take_some` meets its contract. There is room for the rows of short outlines.
 -- Assumes nothing.
 use native.Mathlib.Omega.{arith}
-use Rattle.scope.proofs.Sound.{sound-table}
+use Prim.Native.Nat.{ℕ, _≤_}
+use lib.ListN.{length-replicate}
+use Rattle.scope.specs.Lists.{at}
+use Rattle.scope.specs.Cells.{resolutionOf}
+use Rattle.taking.proofs.Rooms.{room-short}
 use borrow.Author.Needs.{needs}
 use Rattle.taking.proofs.take_some.Statement.{statement}
 use Rattle.taking.proofs.take_some.Tie as tie
-
-blank-rows-requires : tie.Need-blank-rows-requires
-blank-rows-requires c κs = search needs
 
 slice-aggregate-take-noted : tie.Need-slice-aggregate-take-noted
 slice-aggregate-take-noted c = search needs
@@ -17,8 +18,10 @@ slice-aggregate-take-noted-2 c = search needs
 
 take-noted-requires : tie.Need-take-noted-requires
 take-noted-requires c κs =
-    let asks = c .before .before .before .before .before .before .before .before .before .before .before .before .before .before .before .before .before .before .before .before .before .before .before .before .before .before .before .before .pre in
-    record { asks = asks; room = omega (arith, sound-table (asks .sound) .most, c .before .before .before .before .before .before .before .before .before .before .before .before .blank-rows .ensures) }
+    let p = c .before .before .before .before .before .before .before .before .before .before .before .before .before .before .before .before .before .before .before .before .before .before .before .before .before .before .before .pre in
+    let a = c .before .before .before .before .before .before .before .before .before .before .before .before .before .before .before .before .before .before .before .before .before .before .before .before .before .before .before .args in
+    let deep : resolutionOf (at (a .edges .now) 0) ≤ 15 = omega arith in
+    record { asks = p .asks; room = λ i l. room-short (a .edges .now) (a .list .now) (p .short) deep (omega (arith, length-replicate {A = ℕ} 486 0)) i l }
 
 same-length : tie.Need-same-length
 same-length c = search needs
@@ -57,7 +60,6 @@ pub take-some-spec : {M : Type 1} → statement M
 take-some-spec =
     tie.close
     (tie.spec
-    blank-rows-requires
     slice-aggregate-take-noted
     slice-aggregate-take-noted-2
     take-noted-requires

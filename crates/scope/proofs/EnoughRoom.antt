@@ -8,7 +8,7 @@ use Prim.Native.Nat.{ℕ, _*_, _≤_, _<_}
 use mathlib.Core.Path.{_≡_, refl, sym, _∙_, ap, subst}
 use mathlib.Core.Bool.{Bool, true, _&&_}
 use mathlib.Core.Logic.{_⊎_, inl, inr}
-use mathlib.Core.List.{List, [], _∷_, _++_, map, List·Memᴰ, List·Memᴰ·head, List·Memᴰ·tail, List·Memᴰ·not-nil, List·Memᴰ·cases-cons, List·Memᴰ·append-cases, Memᴰ·cast, Memᴰ·of-map}
+use mathlib.Core.List.{List, [], _∷_, _++_, map, List·Memᴰ, List·Memᴰ·head, List·Memᴰ·tail, List·Memᴰ·not-nil, List·Memᴰ·append-cases, Memᴰ·cast, Memᴰ·of-map}
 use native.Mathlib.Omega.{arith}
 use lib.ListN.{length, length-append, length-map}
 use borrow.Author.Tests.{le-leb}
@@ -17,18 +17,19 @@ use Rattle.scope.specs.declared.Verdict.the-variants.{Accepted, Refused}
 use Rattle.scope.specs.Answers.{require, _▷_}
 use Rattle.scope.specs.Table.{Table, rowCount, reverseOf}
 use Rattle.scope.specs.Memory.{Memory, Output, hasSlot, opened, lengthsFit, modeFits, outputsAgree}
-use Rattle.scope.specs.Afresh.{ring, startsRing}
+use Rattle.scope.specs.Afresh.{ring}
 use Rattle.scope.specs.Order.{View, view, standsAt, nextRow, ringAt, lowestRows, ordered, edgeRows}
 use Rattle.scope.specs.Calls.{openVerdict, stateVerdict, outputFits, readVerdict, offeringAll, dissolveVerdict}
 use Rattle.scope.proofs.Tests.{and-left, and-both}
 use Rattle.scope.proofs.Verdicts.{first-accepts, second-accepts, require-holds, require-accepts}
 use Rattle.scope.proofs.Members.{Fresh, mem-below, below-fresh}
 use Rattle.scope.proofs.Pigeonhole.{fresh-length, fresh-map}
-use Rattle.scope.proofs.Cycle.{iter, iter-in, Permutes}
+use Rattle.scope.proofs.Cycle.{iter-in, Permutes}
 use Rattle.scope.proofs.Rings.{mem-ring, ring-fresh, ring-one, starts-stand}
 use Rattle.scope.proofs.Successor.{Reverses}
 use Rattle.scope.proofs.Linked.{true-has}
 use Rattle.scope.proofs.Sorted.{Perm, none, skip, swap, both}
+use Rattle.scope.proofs.Perms.{fresh-append}
 use Rattle.scope.proofs.RingOrder.{ordered-all}
 use Rattle.scope.proofs.Lengths.{lengths-good}
 use Rattle.scope.proofs.Sound.{Sound, sound-state, sound-linked, sound-reverses, none-both}
@@ -36,15 +37,6 @@ use Rattle.scope.proofs.Untouched.{rows-permute}
 use Rattle.scope.proofs.Run.{opened-shown, all-shown}
 
 -- ---- each edge is in one ring
-
-fresh-append : (l k : List ℕ) → Fresh l → Fresh k → ((a : ℕ) → List·Memᴰ a l → List·Memᴰ a k → ⊥) → Fresh (l ++ k)
-fresh-append [] k f g d = g
-fresh-append (x ∷ l) k f g d =
-    (λ i. go (List·Memᴰ·append-cases l i), fresh-append l k (f .1) g (λ a i j. d a (List·Memᴰ·tail i) j))
-  where
-    go : List·Memᴰ x l ⊎ List·Memᴰ x k → ⊥
-    go (inl i) = f .0 i
-    go (inr i) = d x (List·Memᴰ·head refl) i
 
 in-ring : (v : View) (l : List ℕ) (a : ℕ) → List·Memᴰ a (edgeRows v l) → (r : ℕ) × List·Memᴰ r l × List·Memᴰ a (ringAt v r)
 unfolding edgeRows

@@ -3,7 +3,7 @@
 use standing::read_out;
 use wire::columns::decode_state;
 use wire::columns::decode_table;
-use wire::reading::show;
+use wire::output::show;
 ghost use mathlib.Core.Path.{_≡_};
 ghost use mathlib.Core.List.{[]};
 ghost use Prim.Native.Nat.{_≤_};

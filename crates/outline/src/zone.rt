@@ -2,7 +2,7 @@
 use answers::is_done;
 use desk::words::Report;
 use full_size::dissolve_list;
-use report::answers::put_outline;
+use report::zones::put_outline;
 ghost use Rattle.scope.specs.Table.{table};
 ghost use Rattle.scope.specs.Memory.{output};
 ghost use Rattle.full_size.specs.Drawing.{drawing};

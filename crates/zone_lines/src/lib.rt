@@ -1,6 +1,6 @@
 // A zone as lines for the tills, as text into a lent slice: one line with its answer, then each ring as a list on one line.
 // Every slice is read as far as it goes, and 0 past its end, so that nothing is asked of them.
-mod rings;
+mod ring_lines;
 
 use answers::is_done;
 use note_text::put_area;
@@ -8,7 +8,7 @@ use note_text::put_noted;
 use outline_text::line_at;
 use outline_text::standing;
 use refusal_text::put_refusal;
-use rings::put_ring_lines;
+use ring_lines::put_ring_lines;
 use scope::ReadOut;
 use text::put_bytes;
 ghost use mathlib.Core.Path.{_≡_};

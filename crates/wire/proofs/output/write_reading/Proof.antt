@@ -1,11 +1,11 @@
--- `wire::reading::write_reading` meets its contract: the summary, the rings, the edges. Assumes nothing.
+-- `wire::output::write_reading` meets its contract: the summary, the rings, the edges. Assumes nothing.
 use mathlib.Core.Path.{refl, sym}
 use native.Mathlib.Omega.{arith}
 use lib.Seq.{length-take-le}
 use borrow.Author.Needs.{needs}
 use Rattle.wire.proofs.Showing.{reading-written}
-use Rattle.wire.proofs.reading.write_reading.Statement.{statement}
-use Rattle.wire.proofs.reading.write_reading.Tie as tie
+use Rattle.wire.proofs.output.write_reading.Statement.{statement}
+use Rattle.wire.proofs.output.write_reading.Tie as tie
 
 summarise-requires : tie.Need-summarise-requires
 summarise-requires c κs = search needs

@@ -1,12 +1,12 @@
--- `wire::reading::edge_count` meets its contract: the rings before place i are counted. Assumes nothing.
+-- `wire::output::edge_count` meets its contract: the rings before place i are counted. Assumes nothing.
 use mathlib.Core.Path.{_≡_, refl, _∙_, ap, ap₂}
 use Prim.Native.Nat.{ℕ, _+_, _-_, _≤_}
 use native.Mathlib.Numerals.{add-one}
 use native.Mathlib.Omega.{arith}
 use Rattle.scope.specs.Lists.{at, total}
 use Rattle.wire.proofs.Showing.{total-next, total-upto}
-use Rattle.wire.proofs.reading.edge_count.Statement.{statement}
-use Rattle.wire.proofs.reading.edge_count.Tie as tie
+use Rattle.wire.proofs.output.edge_count.Statement.{statement}
+use Rattle.wire.proofs.output.edge_count.Tie as tie
 
 abbrev Inv-loop : tie.InvT-loop
 Inv-loop size rings edges₀ i₀ edges i = (i ≤ rings) × (edges ≡ total (at size) i)

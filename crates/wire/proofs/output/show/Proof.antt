@@ -1,4 +1,4 @@
--- `wire::reading::show` meets its contract: refused or too short, nothing is written. Assumes nothing.
+-- `wire::output::show` meets its contract: refused or too short, nothing is written. Assumes nothing.
 use mathlib.Core.Path.{_≡_, sym, _∙_, ap, subst}
 use mathlib.Core.Logic.{⊎-elim}
 use Prim.Native.Nat.{ℕ, _≤_}
@@ -11,8 +11,8 @@ use Rattle.scope.specs.Answers.{ringsOf, isAccepted}
 use Rattle.scope.specs.Memory.{Output, output}
 use Rattle.scope.specs.Bytes.{edgeCount, resultOf, shownVerdict}
 use Rattle.wire.proofs.Showing.{shown-is, shown-fits, shown-low, if-accepted, if-refused}
-use Rattle.wire.proofs.reading.show.Statement.{statement}
-use Rattle.wire.proofs.reading.show.Tie as tie
+use Rattle.wire.proofs.output.show.Statement.{statement}
+use Rattle.wire.proofs.output.show.Tie as tie
 
 summarise-requires : tie.Need-summarise-requires
 summarise-requires c κs = search needs

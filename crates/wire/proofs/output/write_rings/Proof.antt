@@ -1,4 +1,4 @@
--- `wire::reading::write_rings` meets its contract: the rings before place i are written. Assumes nothing.
+-- `wire::output::write_rings` meets its contract: the rings before place i are written. Assumes nothing.
 use mathlib.Core.Path.{_≡_, refl, _∙_, ap}
 use mathlib.Core.List.{[]}
 use Prim.Native.Nat.{ℕ, _-_}
@@ -8,8 +8,8 @@ use lib.Seq.{sets}
 use Rattle.scope.specs.Memory.{output}
 use Rattle.scope.specs.Bytes.{ringBytes, joined}
 use Rattle.codec.proofs.Writing.{Written, written-none, written-next}
-use Rattle.wire.proofs.reading.write_rings.Statement.{statement}
-use Rattle.wire.proofs.reading.write_rings.Tie as tie
+use Rattle.wire.proofs.output.write_rings.Statement.{statement}
+use Rattle.wire.proofs.output.write_rings.Tie as tie
 
 abbrev Inv-loop : tie.InvT-loop
 Inv-loop out₀ start size group area rings i₀ out i = Written (ringBytes (output start size group area [])) out₀ 24 rings out i

@@ -1,9 +1,9 @@
--- `report::answers/put_counted` meets its contract.
+-- `report::zones/put_counted` meets its contract.
 -- Assumes nothing.
 use borrow.Author.Needs.{needs}
 use Rattle.text.proofs.Writing.{wrote-more}
-use Rattle.report.proofs.answers.put_counted.Statement.{statement}
-use Rattle.report.proofs.answers.put_counted.Tie as tie
+use Rattle.report.proofs.zones.put_counted.Statement.{statement}
+use Rattle.report.proofs.zones.put_counted.Tie as tie
 
 standing-requires : tie.Need-standing-requires
 standing-requires c κs = search needs

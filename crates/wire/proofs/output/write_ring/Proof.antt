@@ -1,12 +1,12 @@
--- `wire::reading::write_ring` meets its contract: four numbers in a row. Assumes nothing.
+-- `wire::output::write_ring` meets its contract: four numbers in a row. Assumes nothing.
 use borrow.Author.Needs.{needs}
 use mathlib.Core.Path.{refl}
 use mathlib.Core.List.{_++_}
 use Prim.Native.Nat.{_+_}
 use Rattle.scope.specs.Bytes.{bytes32, bytes64}
 use Rattle.codec.proofs.Writing.{behind}
-use Rattle.wire.proofs.reading.write_ring.Statement.{statement}
-use Rattle.wire.proofs.reading.write_ring.Tie as tie
+use Rattle.wire.proofs.output.write_ring.Statement.{statement}
+use Rattle.wire.proofs.output.write_ring.Tie as tie
 
 write-u32-requires : tie.Need-write-u32-requires
 write-u32-requires c κs = search needs

@@ -1,11 +1,11 @@
--- `wire::reading::write_summary` meets its contract: five numbers in a row. Assumes nothing.
+-- `wire::output::write_summary` meets its contract: five numbers in a row. Assumes nothing.
 use borrow.Author.Needs.{needs}
 use mathlib.Core.Path.{refl}
 use mathlib.Core.List.{_++_}
 use Rattle.scope.specs.Bytes.{bytes32, bytes64}
 use Rattle.codec.proofs.Writing.{behind}
-use Rattle.wire.proofs.reading.write_summary.Statement.{statement}
-use Rattle.wire.proofs.reading.write_summary.Tie as tie
+use Rattle.wire.proofs.output.write_summary.Statement.{statement}
+use Rattle.wire.proofs.output.write_summary.Tie as tie
 
 write-u32-requires : tie.Need-write-u32-requires
 write-u32-requires c κs = search needs

@@ -1,9 +1,9 @@
--- `report::answers/put_outline` meets its contract. By cases.
+-- `report::zones/put_outline` meets its contract. By cases.
 -- Assumes nothing.
 use borrow.Author.Needs.{needs}
 use Rattle.report.specs.Answers.{outlineText}
-use Rattle.report.proofs.answers.put_outline.Statement.{statement}
-use Rattle.report.proofs.answers.put_outline.Tie as tie
+use Rattle.report.proofs.zones.put_outline.Statement.{statement}
+use Rattle.report.proofs.zones.put_outline.Tie as tie
 
 enum-told : tie.Need-enum-told
 enum-told c = search needs

@@ -21,7 +21,7 @@ use Rattle.scope.proofs.Sound.{sound-table, offered-outline, offered-room}
 use Rattle.scope.proofs.Taking.{placedFor, offered-many, sound-forest}
 use Rattle.free_slots.specs.Search.{Flags}
 use Rattle.arcs.specs.Place.{freeIn, slotsAt}
-use Rattle.arcs.specs.Cancel.{pool}
+use Rattle.pairs.specs.Cancel.{pool}
 use Rattle.arcs.specs.CancelRows.{reverses, CancelAsks, RowsCancelled}
 use Rattle.arcs.specs.Taking.{HoldAsks, CellHeld, OutlineAsks, OutlinePlaced, AddAsks, Added}
 use Rattle.arcs.proofs.Counting.{usedTotal, free-count, used-put}

@@ -21,7 +21,7 @@ use Rattle.scope.proofs.Sums.{total-change}
 use Rattle.scope.proofs.PoolCount.{count-both}
 use Rattle.free_slots.specs.Search.{usedIn}
 use Rattle.arcs.specs.Place.{freeIn}
-use Rattle.arcs.specs.Cancel.{clearTwo}
+use Rattle.pairs.specs.Cancel.{clearTwo}
 
 abbrev one : List ℕ → ℕ → ℕ
 one l s = cond (usedIn l s) 1 0

@@ -8,8 +8,6 @@ pub mod PlacedSlots
 -- A pair leaves the links and the pool.
 pub mod Round
 pub mod Pair
-pub mod Closing
-pub mod Pairs
 -- The pairs of an outline, one after the other, against all pairs at once.
 pub mod Counting
 pub mod Gone

@@ -17,10 +17,11 @@ use Rattle.scope.specs.Pool.{cancels, reverseSlot, metFirst, unitePairs}
 use Rattle.scope.proofs.Tests.{either, clash}
 use Rattle.scope.proofs.Members.{cases}
 use Rattle.scope.proofs.Linked.{at-in, Has, has-in, slot-used, row-slot, cancels-from, mate-mate}
-use Rattle.arcs.specs.Cancel.{pairNext, pairPrev, clearTwo, Closed, PairAsks, PairCancelled}
+use Rattle.pairs.specs.Cancel.{pairNext, pairPrev, clearTwo, Closed, PairAsks, PairCancelled}
 use Rattle.arcs.specs.CancelRows.{CancelAsks}
 use Rattle.arcs.proofs.Round.{Put₂}
-use Rattle.arcs.proofs.Clearing.{clear-length, clear-put, pair-length, clear-more}
+use Rattle.pairs.proofs.Freeing.{clear-length}
+use Rattle.arcs.proofs.Clearing.{clear-put, pair-length, clear-more}
 use Rattle.arcs.proofs.Pair.{Less₂, Mates, Removed, pair-removed, pair-rest}
 use Rattle.arcs.proofs.After.{after-pair, after-same, round-same}
 use Rattle.arcs.proofs.Gone.{gone, gone-from, gone-mate, gone-else, gone-first, gone-second}

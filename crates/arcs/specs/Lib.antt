@@ -1,5 +1,4 @@
 -- What the contracts of this crate say.
 pub mod Place
-pub mod Cancel
 pub mod CancelRows
 pub mod Taking

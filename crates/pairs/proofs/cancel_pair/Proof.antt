@@ -1,14 +1,14 @@
--- `arcs::cancel::cancel_pair` meets its contract: union, merging and freeing in a row (Pairs), and the two slots are flagged (Clearing).
+-- `pairs::cancel_pair` meets its contract: union, merging and freeing in a row (Pairs), and the two slots are flagged (Freeing).
 -- Assumes nothing.
 use native.Mathlib.Omega.{arith}
 use Prim.Native.Nat.{_-_, _<_}
 use mathlib.Core.Path.{_∙_}
 use lib.ListN.{length}
-use Rattle.arcs.specs.Cancel.{pool}
-use Rattle.arcs.proofs.Pairs.{union-asks, merge-asks, free-asks, pair-done}
-use Rattle.arcs.proofs.Clearing.{flags-cleared}
-use Rattle.arcs.proofs.cancel.cancel_pair.Statement.{statement}
-use Rattle.arcs.proofs.cancel.cancel_pair.Tie as tie
+use Rattle.pairs.specs.Cancel.{pool}
+use Rattle.pairs.proofs.Pairs.{union-asks, merge-asks, free-asks, pair-done}
+use Rattle.pairs.proofs.Freeing.{flags-cleared}
+use Rattle.pairs.proofs.cancel_pair.Statement.{statement}
+use Rattle.pairs.proofs.cancel_pair.Tie as tie
 
 get32-requires : tie.Need-get32-requires
 get32-requires c κs = c .before .before .before .before .before .before .before .before .before .pre .0 .row-in

@@ -11,7 +11,7 @@ use lib.ListN.{length, set, length-set}
 use lib.Seq.{getD-set-same, getD-set-other}
 use Rattle.scope.specs.Lists.{at}
 use Rattle.scope.proofs.Members.{cases}
-use Rattle.arcs.specs.Cancel.{swapNext, swapPrev, dropNext, dropPrev, pairNext, pairPrev, clearTwo, Closed}
+use Rattle.pairs.specs.Cancel.{swapNext, swapPrev, dropNext, dropPrev, pairNext, pairPrev, clearTwo, Closed}
 
 -- a store of a number below n keeps every element below n
 below-set : (l : List ℕ) (n i v : ℕ) → v < n → ((k : ℕ) → k < length l → at l k < n) → (k : ℕ) → k < length (set l i v) → at (set l i v) k < n

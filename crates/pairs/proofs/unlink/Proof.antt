@@ -1,10 +1,10 @@
--- `arcs::cancel::unlink` meets its contract: two stores, each at a link in range.
+-- `pairs::unlink` meets its contract: two stores, each at a link in range.
 -- Assumes nothing.
 use native.Mathlib.Omega.{arith}
 use borrow.Author.Needs.{needs}
-use Rattle.arcs.proofs.Closing.{links-in, drop-stored}
-use Rattle.arcs.proofs.cancel.unlink.Statement.{statement}
-use Rattle.arcs.proofs.cancel.unlink.Tie as tie
+use Rattle.pairs.proofs.Closing.{links-in, drop-stored}
+use Rattle.pairs.proofs.unlink.Statement.{statement}
+use Rattle.pairs.proofs.unlink.Tie as tie
 
 get32-requires : tie.Need-get32-requires
 get32-requires c κs = search needs

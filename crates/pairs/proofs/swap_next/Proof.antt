@@ -1,10 +1,10 @@
--- `arcs::cancel::swap_next` meets its contract: four stores, each at a link in range.
+-- `pairs::swap_next` meets its contract: four stores, each at a link in range.
 -- Assumes nothing.
 use native.Mathlib.Omega.{arith}
 use borrow.Author.Needs.{needs}
-use Rattle.arcs.proofs.Closing.{links-in, swap-stored}
-use Rattle.arcs.proofs.cancel.swap_next.Statement.{statement}
-use Rattle.arcs.proofs.cancel.swap_next.Tie as tie
+use Rattle.pairs.proofs.Closing.{links-in, swap-stored}
+use Rattle.pairs.proofs.swap_next.Statement.{statement}
+use Rattle.pairs.proofs.swap_next.Tie as tie
 
 get32-requires : tie.Need-get32-requires
 get32-requires c κs = search needs

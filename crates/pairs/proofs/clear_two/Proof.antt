@@ -1,9 +1,9 @@
--- `arcs::cancel::clear_two` meets its contract: two stores.
+-- `pairs::clear_two` meets its contract: two stores.
 -- Assumes nothing.
 use borrow.Author.Needs.{needs}
-use Rattle.arcs.proofs.Closing.{clear-stored}
-use Rattle.arcs.proofs.cancel.clear_two.Statement.{statement}
-use Rattle.arcs.proofs.cancel.clear_two.Tie as tie
+use Rattle.pairs.proofs.Closing.{clear-stored}
+use Rattle.pairs.proofs.clear_two.Statement.{statement}
+use Rattle.pairs.proofs.clear_two.Tie as tie
 
 put32-requires : tie.Need-put32-requires
 put32-requires c κs = search needs

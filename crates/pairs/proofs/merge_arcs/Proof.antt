@@ -1,9 +1,9 @@
--- `arcs::cancel::merge_arcs` meets its contract: its three steps in a row (Closing).
+-- `pairs::merge_arcs` meets its contract: its three steps in a row (Closing).
 -- Assumes nothing.
 use borrow.Author.Needs.{needs}
-use Rattle.arcs.proofs.Closing.{swapped-closed, dropped-closed, pair-all}
-use Rattle.arcs.proofs.cancel.merge_arcs.Statement.{statement}
-use Rattle.arcs.proofs.cancel.merge_arcs.Tie as tie
+use Rattle.pairs.proofs.Closing.{swapped-closed, dropped-closed, pair-all}
+use Rattle.pairs.proofs.merge_arcs.Statement.{statement}
+use Rattle.pairs.proofs.merge_arcs.Tie as tie
 
 swap-next-requires : tie.Need-swap-next-requires
 swap-next-requires c κs = search needs

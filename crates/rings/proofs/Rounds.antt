@@ -1,5 +1,5 @@
 -- Going round a ring: the next rows permute the rows that stand, and a loop that starts at a row comes back to it after one period.
---     next-in           the places that the step to the next row reads
+--     next-in           the places that the step to the next row reads; slot-after, the same step by slots
 --     links-permute     the step permutes the rows that stand
 --     Round             where such a loop stands: after k steps, with `more` for whether it goes on; round-start, round-next, its moves
 --     ring-length, ring-rows     what it passed is the ring
@@ -21,7 +21,7 @@ use Rattle.scope.proofs.Rules.{not-zero, zero-not}
 use Rattle.scope.proofs.Linked.{at-in}
 use Rattle.scope.proofs.Cycle.{iter, iter-zero, iter-last, iter-in, orbit, orbit-length, Period, Permutes, period, period-most}
 use Rattle.scope.proofs.Rings.{ring-orbit}
-use Rattle.rings.specs.Links.{ringIn, Links, OnRing}
+use Rattle.rings.specs.Links.{ringIn, Links, OnRing, NextSlot}
 
 -- ---- the step
 
@@ -42,6 +42,16 @@ module _ {rowSlot slotRow next : List ℕ} (L : Links rowSlot slotRow next) wher
 
   pub next-stands : (r : ℕ) → at rowSlot r ≢ 0 → at rowSlot (nextRow rowSlot slotRow next r) ≢ 0
   next-stands r h = let e = next-slot r h in omega arith
+
+  -- the step by slots: the slot after a row's is the next row's
+  pub slot-after : (r : ℕ) → at rowSlot r ≢ 0 → {slot s : ℕ} → slot ≡ at rowSlot r - 1 → s ≡ at next slot → NextSlot rowSlot slotRow next r s
+  slot-after r h {slot} {s} e f =
+      let q : s ≡ at next (at rowSlot r - 1) = f ∙ ap (at next) e in
+      record {
+        used = λ z. L .next-used (at rowSlot r - 1) (slot-used r h) (sym (ap (at slotRow) q) ∙ z);
+        row = ap (λ (t : ℕ). at slotRow t - 1) q;
+        own = rw q (let n = next-slot r h in omega (arith, n));
+      }
 
   pub links-permute : Permutes (length rowSlot) (λ a. standsAt rowSlot a ≡ true) (nextRow rowSlot slotRow next)
   links-permute = record {

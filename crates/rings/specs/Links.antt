@@ -40,3 +40,9 @@ pub record Links (rowSlot slotRow next : List ℕ) : Type 0 where
 pub record OnRing (rowSlot slotRow next : List ℕ) (r : ℕ) : Type 0 where
   pub links : Links rowSlot slotRow next
   pub stands : at rowSlot r ≢ 0
+
+-- The slot after that of r, as the next row's: it is used, holds the next row, and is that row's slot.
+pub record NextSlot (rowSlot slotRow next : List ℕ) (r s : ℕ) : Type 0 where
+  pub used : at slotRow s ≢ 0
+  pub row : at slotRow s - 1 ≡ nextRow rowSlot slotRow next r
+  pub own : s ≡ at rowSlot (at slotRow s - 1) - 1

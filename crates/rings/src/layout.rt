@@ -5,7 +5,9 @@ ghost use lib.Seq.{slice};
 ghost use Rattle.scope.specs.Area.{areaOf};
 ghost use Rattle.ring_order.specs.Fill.{Filling};
 ghost use Rattle.rings.specs.Laying.{LayReady, Laid, LayAllReady, LaidAll, termsOf, AreaReady, areaLaid, AreasReady, OutReady, LaidOut};
-use crate::walk::next_row;
+use crate::walk::next_slot;
+use crate::walk::row_in;
+use crate::walk::slot_of;
 use fp_adder::FloatAdder;
 use slices::get32;
 use slices::put32;
@@ -25,11 +27,13 @@ fn lay_ring(
 {
     let mut k: usize = 0;
     let mut x = r;
+    let mut slot = slot_of(row_slot, slot_row, next, r);
     let mut more = true;
     while more {
         put32(out, from + k, x);
         k += 1;
-        x = next_row(row_slot, slot_row, next, x);
+        slot = next_slot(row_slot, slot_row, next, x, slot);
+        x = row_in(slot_row, slot);
         more = x != r;
     }
     k

@@ -1,19 +1,42 @@
 // Going round the rings of a state: the next row, a ring marked, all rings counted and listed.
 ghost use mathlib.Core.Path.{_≡_};
 ghost use lib.ListN.{length};
-ghost use Prim.Native.Nat.{_<_};
-ghost use Rattle.scope.specs.Order.{nextRow};
-ghost use Rattle.rings.specs.Links.{OnRing};
+ghost use mathlib.Core.Logic.{_≢_};
+ghost use Prim.Native.Nat.{_-_, _<_};
+ghost use Rattle.scope.specs.Lists.{at};
+ghost use Rattle.rings.specs.Links.{OnRing, NextSlot};
 ghost use Rattle.rings.specs.Marking.{MarkReady, Marked, unmarked, CountReady, Counted, ListReady, Listed};
 use slices::get32;
 use slices::put32;
 
-// The row that follows r in its ring.
-pub(crate) fn next_row(row_slot: &[u32], slot_row: &[u32], next: &[u32], r: usize) -> usize
+// The slot of a row that stands.
+pub(crate) fn slot_of(row_slot: &[u32], slot_row: &[u32], next: &[u32], r: usize) -> usize
     requires { ⌜ OnRing (now «row_slot») (now «slot_row») (now next) r ⌝ }
-    ensures { λ x. ⌜ x ≡ nextRow (now («row_slot» .entry)) (now («slot_row» .entry)) (now (next .entry)) r ⌝ }
+    ensures { λ s. ⌜ s ≡ at (now («row_slot» .entry)) r - 1 ⌝ }
 {
-    let slot = get32(next, get32(row_slot, r) - 1);
+    get32(row_slot, r) - 1
+}
+
+// The slot that follows that of r in its ring. The rings are gone round by slots, so that a turn waits for one number and not for three;
+// `row_slot` and r serve the proof alone.
+pub(crate) fn next_slot(
+    row_slot: &[u32],
+    slot_row: &[u32],
+    next: &[u32],
+    r: usize,
+    slot: usize,
+) -> usize
+    requires { ⌜ OnRing (now «row_slot») (now «slot_row») (now next) r × (slot ≡ at (now «row_slot») r - 1) ⌝ }
+    ensures { λ s. ⌜ NextSlot (now («row_slot» .entry)) (now («slot_row» .entry)) (now (next .entry)) r s ⌝ }
+{
+    get32(next, slot)
+}
+
+// The row that a used slot holds.
+pub(crate) fn row_in(slot_row: &[u32], slot: usize) -> usize
+    requires { ⌜ at (now «slot_row») slot ≢ 0 ⌝ }
+    ensures { λ r. ⌜ r ≡ at (now («slot_row» .entry)) slot - 1 ⌝ }
+{
     get32(slot_row, slot) - 1
 }
 
@@ -25,11 +48,13 @@ fn mark_ring(row_slot: &[u32], slot_row: &[u32], next: &[u32], mark: &mut [u32],
 {
     let mut k: usize = 0;
     let mut x = r;
+    let mut slot = slot_of(row_slot, slot_row, next, r);
     let mut more = true;
     while more {
         put32(mark, x, 1);
         k += 1;
-        x = next_row(row_slot, slot_row, next, x);
+        slot = next_slot(row_slot, slot_row, next, x, slot);
+        x = row_in(slot_row, slot);
         more = x != r;
     }
     put32(mark, r, 2);

@@ -16,8 +16,8 @@ use Rattle.command_line.specs.Tools.{takesMany}
 use Rattle.command_line.specs.Words.{sameText, optionOf, wordOf}
 use Rattle.command_line.specs.Lines.{noWords, withHelp, withTable, withList, withFault, fileTaken, modeTaken, wordTaken, isHelp, kindTaken, taken, lineFrom, lineOf, statusOf}
 
-record Asked (o : Line) : Type 0 where
-  asked : o .help ≡ true
+pub record Asked (o : Line) : Type 0 where
+  pub asked : o .help ≡ true
 
 either : (b : Bool) {x y : Line} → Asked x → Asked y → Asked (cond b x y)
 either true p q = p
@@ -56,7 +56,7 @@ keeps t o k w h =
     either (isHelp w) {x = withHelp o} (record { asked = refl })
     (either (eqb (o .fault) 0) (either (eqb (o .mode) 3) (mode-keeps o k w h) (word-keeps t o k w h)) h)
 
-all-keep : (t : Tool) (k : ℕ) (o : Line) (ws : List (List ℕ)) → Asked o → Asked (lineFrom t k o ws)
+pub all-keep : (t : Tool) (k : ℕ) (o : Line) (ws : List (List ℕ)) → Asked o → Asked (lineFrom t k o ws)
 unfolding lineFrom
 all-keep t k o [] h = h
 all-keep t k o (w ∷ ws) h = all-keep t (suc k) (taken t o k w) ws (keeps t o k (wordOf t w) h)

@@ -6,7 +6,7 @@ use Prim.Native.Nat.{ℕ, _≤_}
 use native.Mathlib.Omega.{arith}
 use lib.ListN.{length, replicate}
 use Rattle.scope.specs.Lists.{zeros}
-use Rattle.taking.specs.declared.outline.Outlined.{Outlined}
+use Rattle.taking.specs.declared.lookup.Outlined.{Outlined}
 use Rattle.taking.specs.Outlines.{OutlineAsks, FindsMarked, UnmarkAsks}
 use Rattle.taking.proofs.Marking.{marks-clear}
 

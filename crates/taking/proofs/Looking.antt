@@ -18,7 +18,7 @@ use Rattle.scope.specs.Walk.{outline}
 use Rattle.scope.specs.Table.{rowOf, findRow}
 use Rattle.scope.proofs.Tests.{clash}
 use Rattle.scope.proofs.Members.{mem-dec}
-use Rattle.taking.specs.declared.outline.Outlined.{Outlined}
+use Rattle.taking.specs.declared.lookup.Outlined.{Outlined}
 use Rattle.taking.specs.Outlines.{rowsOf, OutlineAsks, Marks, RowAsks, StoresRow, Finds, FindsMarked}
 use Rattle.taking.proofs.Walked.{Walked, walked-start, walked-inside, walked-few, walked-room, walked-new, walked-again, walked-absent, walked-all, walked-rows, walked-twice}
 

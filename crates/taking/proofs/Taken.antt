@@ -29,7 +29,7 @@ use Rattle.scope.proofs.Tables.{TableGood}
 use Rattle.scope.proofs.Sound.{Sound, sound-table, Offered}
 use Rattle.free_slots.specs.Search.{Flags}
 use Rattle.arcs.specs.Taking.{AddAsks, Added}
-use Rattle.taking.specs.declared.outline.Outlined.{Outlined}
+use Rattle.taking.specs.declared.lookup.Outlined.{Outlined}
 use Rattle.taking.specs.declared.take.Taken.{Taken}
 use Rattle.taking.specs.Outlines.{OutlineAsks, Finds}
 use Rattle.taking.specs.Taking.{outlineAnswer, TakeAsks, Takes}

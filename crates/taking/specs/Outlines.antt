@@ -11,7 +11,7 @@ use Rattle.scope.specs.Cells.{resolutionOf, validCell}
 use Rattle.scope.specs.Walk.{outline}
 use Rattle.scope.specs.Table.{ascends, rowOf}
 use Rattle.scope.specs.Pool.{namesTwice}
-use Rattle.taking.specs.declared.outline.Outlined.{Outlined}
+use Rattle.taking.specs.declared.lookup.Outlined.{Outlined}
 
 -- scope's `outlineRows` and `allInTable`, of a table with these edges
 abbrev pub rowsOf : List ℕ → ℕ → List ℕ

@@ -17,7 +17,7 @@ use Rattle.scope.specs.Pool.{freeSlots, outlineVerdict, taking}
 use Rattle.scope.specs.Calls.{Outcome, outcome, offeringAll}
 use Rattle.scope.proofs.Sound.{Sound}
 use Rattle.free_slots.specs.Search.{Flags}
-use Rattle.taking.specs.declared.outline.Outlined.{Outlined}
+use Rattle.taking.specs.declared.lookup.Outlined.{Outlined}
 use Rattle.taking.specs.declared.take.Taken.{Taken}
 use Rattle.taking.specs.Outlines.{Room, shortOutlines}
 

@@ -1,6 +1,6 @@
 // One more cell of a state that admits it: refusals 5, 6 and 7, or its outline placed and its pairs cancelled.
-use crate::outline::Outlined;
-use crate::outline::outline_rows;
+use crate::lookup::Outlined;
+use crate::lookup::outline_rows;
 use answers::is_accepted;
 use arcs::add_edges;
 use scope::Verdict;

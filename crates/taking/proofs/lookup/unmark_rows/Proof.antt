@@ -1,4 +1,4 @@
--- `taking::outline::unmark_rows` meets its contract. The marks from the i-th stored row on are still to be cleared.
+-- `taking::lookup::unmark_rows` meets its contract. The marks from the i-th stored row on are still to be cleared.
 -- Assumes nothing.
 use mathlib.Core.Path.{_≡_, sym, _∙_, ap}
 use Prim.Native.Nat.{ℕ, _-_}
@@ -7,8 +7,8 @@ use mathlib.Core.List.{List}
 use Rattle.scope.specs.Lists.{at}
 use Rattle.taking.proofs.Marking.{Clearing, clearing-start, clearing-row, clearing-more, clearing-done}
 use native.Mathlib.Omega.{arith}
-use Rattle.taking.proofs.outline.unmark_rows.Statement.{statement}
-use Rattle.taking.proofs.outline.unmark_rows.Tie as tie
+use Rattle.taking.proofs.lookup.unmark_rows.Statement.{statement}
+use Rattle.taking.proofs.lookup.unmark_rows.Tie as tie
 
 abbrev Inv-loop : tie.InvT-loop
 Inv-loop row-mark₀ rows count i₀ row-mark i = Clearing row-mark₀ rows count row-mark i

@@ -1,10 +1,10 @@
--- `taking::outline::store_row` meets its contract. The row is marked already, or is stored and marked.
+-- `taking::lookup::store_row` meets its contract. The row is marked already, or is stored and marked.
 -- Assumes nothing.
 use mathlib.Core.Path.{_≡_, sym, _∙_}
 use Rattle.taking.proofs.Marking.{row-again, row-stored}
 use borrow.Author.Needs.{needs}
-use Rattle.taking.proofs.outline.store_row.Statement.{statement}
-use Rattle.taking.proofs.outline.store_row.Tie as tie
+use Rattle.taking.proofs.lookup.store_row.Statement.{statement}
+use Rattle.taking.proofs.lookup.store_row.Tie as tie
 
 get32-requires : tie.Need-get32-requires
 get32-requires c κs = search needs

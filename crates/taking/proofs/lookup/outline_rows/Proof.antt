@@ -1,12 +1,12 @@
--- `taking::outline::outline_rows` meets its contract. The marks that the walk left are cleared.
+-- `taking::lookup::outline_rows` meets its contract. The marks that the walk left are cleared.
 -- Assumes nothing.
 use mathlib.Core.Path.{_≡_, refl, sym, _∙_, ap}
 use Prim.Native.Nat.{ℕ}
 use mathlib.Core.List.{List}
 use Rattle.scope.specs.Lists.{zeros}
 use Rattle.taking.proofs.Clearing.{unmark-asks, marks-back}
-use Rattle.taking.proofs.outline.outline_rows.Statement.{statement}
-use Rattle.taking.proofs.outline.outline_rows.Tie as tie
+use Rattle.taking.proofs.lookup.outline_rows.Statement.{statement}
+use Rattle.taking.proofs.lookup.outline_rows.Tie as tie
 
 mark-rows-requires : tie.Need-mark-rows-requires
 mark-rows-requires c κs = c .before .before .before .before .before .before .pre

@@ -1,4 +1,4 @@
--- `taking::outline::mark_rows` meets its contract. The edges still to be walked are those of the walk; each that is met is found, and its row stored or known.
+-- `taking::lookup::mark_rows` meets its contract. The edges still to be walked are those of the walk; each that is met is found, and its row stored or known.
 -- Assumes nothing.
 use mathlib.Core.Path.{_≡_, sym, _∙_, ap}
 use Prim.Native.Nat.{ℕ, _<_}
@@ -8,8 +8,8 @@ use Rattle.gosper.specs.Walking.{Walking, rest}
 use Rattle.taking.proofs.Looking.{Looking, looking-start, looking-absent, looking-row, looking-new, looking-again, looking-end}
 use borrow.Author.Needs.{needs}
 use native.Mathlib.Omega.{arith}
-use Rattle.taking.proofs.outline.mark_rows.Statement.{statement}
-use Rattle.taking.proofs.outline.mark_rows.Tie as tie
+use Rattle.taking.proofs.lookup.mark_rows.Statement.{statement}
+use Rattle.taking.proofs.lookup.mark_rows.Tie as tie
 
 abbrev Inv-loop : tie.InvT-loop
 Inv-loop edges notes row-mark₀ rows₀ cell walk₀ count₀ twice₀ row-mark rows walk count twice = Walking walk × Looking edges row-mark₀ rows₀ cell row-mark rows (rest walk) count twice

@@ -70,6 +70,7 @@ printf '8928308280fffff\n123\n' >"$work/invalid.cells"
 printf '89283470803ffff\n' >"$work/elsewhere.cells"
 printf '8828308281fffff\n' >"$work/coarser.cells"
 printf '\357\273\2778928308280fffff\n' >"$work/marked.cells"
+for base in $(seq 0 121); do printf '%016x\n' $((0x08001fffffffffff + base * 0x200000000000)); done >"$work/world.cells"
 seq 1 16385 | sed 's/.*/8928308280fffff/' >"$work/many.cells"
 
 # ---- outline
@@ -85,6 +86,9 @@ tells 'cells 1' bin/outline "$table" "$work/marked.cells"
 tells '    296' bin/outline --rows "$table" samples/market.cells
 tells 'cells 2' bin/outline "$table" "$work/good.cells"
 tells 'nothing: the list has no cells' bin/outline "$table" "$work/empty"
+tells 'standing edges 0' bin/outline "$table" "$work/empty"
+tells 'closed: no edge stands' bin/outline crates/worked_examples/data/world_r0.table "$work/world.cells"
+tells 'cells 122' bin/outline crates/worked_examples/data/world_r0.table "$work/world.cells"
 refused 'outline: --mode is the last argument, and even or mixed has to follow; outline --help says more' bin/outline "$table" "$zone" --mode
 refused 'outline: argument 4, odd, is no mode, which is even or mixed; outline --help says more' bin/outline "$table" "$zone" --mode odd
 refused 'outline: argument 2, --rows, is no mode, which is even or mixed; outline --help says more' bin/outline --mode --rows "$table" "$zone"
@@ -183,7 +187,8 @@ done
 
 # ---- till_import: a zone that cannot be taken leaves the others alone
 
-tells "$work/empty: nothing, the list has no cells" bin/till_import "$table" "$work/empty"
+tells "$work/empty: nothing, cells 0, polygons 0, rings 0, standing edges 0" bin/till_import "$table" "$work/empty"
+tells "$work/world.cells: closed, cells 122, polygons 0, rings 0, standing edges 0" bin/till_import crates/worked_examples/data/world_r0.table "$work/world.cells"
 bin/till_import "$table" samples/streets.cells samples/market.cells >"$work/both"
 run bin/till_import "$table" samples/streets.cells "$work/twice.cells" "$work/none" samples/market.cells
 [ "$status" -eq 1 ] && cmp -s "$work/both" "$work/out" && [ "$(wc -l <"$work/err")" -eq 2 ] || fault "till_import with two bad zones among good ones"

@@ -1,4 +1,4 @@
--- What a call answered, as text: nothing, closed, an outline with its rings, or a refusal in words.
+-- What a call answered, as text: what it counts, and nothing, closed, or each ring; or a refusal in words.
 -- Assumes nothing.
 use Prim.Native.Nat.{ℕ}
 use mathlib.Core.Bool.{Bool}
@@ -9,15 +9,12 @@ use Rattle.scope.specs.declared.ReadOut.{ReadOut}
 use Rattle.scope.specs.declared.ReadOut.the-variants.{Nothing, Closed, Outline, Refused}
 use Rattle.scope.specs.Lists.{at}
 use Rattle.text.specs.Text.{ascii}
-use Rattle.note_text.specs.Notes.{noted}
 use Rattle.outline_text.specs.Outlines.{standing, summaryText, ringsText}
 use Rattle.refusal_text.specs.Refusals.{refusalText}
 
-abbrev pub nothingText : List ℕ
-nothingText = ascii "nothing: the list has no cells\n"
-
-abbrev pub closedText : ℕ → List ℕ
-closedText cells = noted (ascii "closed: ") cells (ascii " cells, and no edge stands\n")
+-- no edge stands: what is counted of so many cells over so many rows
+abbrev pub noneText : ℕ → ℕ → List ℕ
+noneText rows cells = summaryText rows cells 0 0 0
 
 -- an outline of so many cells: what it counts, then each ring
 abbrev pub countedText : ℕ → List ℕ → Bool → ℕ → ℕ → List ℕ → List ℕ → List ℕ → List Float → List ℕ → List ℕ
@@ -27,8 +24,8 @@ countedText cells edges rows polygons rings start size group area rowList =
 
 -- The whole report of `outline`: the names of the two files; the lines of the cells; the table's edges; the answer and what was written.
 unfoldable pub outlineText : List ℕ → List ℕ → List ℕ → List ℕ → Bool → ReadOut → List ℕ → List ℕ → List ℕ → List Float → List ℕ → List ℕ
-outlineText table list lines edges rows Nothing start size group area rowList = nothingText
-outlineText table list lines edges rows Closed start size group area rowList = closedText (length lines)
+outlineText table list lines edges rows Nothing start size group area rowList = noneText (length edges) (length lines) ++ ascii "nothing: the list has no cells\n"
+outlineText table list lines edges rows Closed start size group area rowList = noneText (length edges) (length lines) ++ ascii "closed: no edge stands\n"
 outlineText table list lines edges rows (Outline polygons rings first) start size group area rowList =
     countedText (length lines) edges rows polygons rings start size group area rowList
 outlineText table list lines edges rows (Refused number index) start size group area rowList =

@@ -1,5 +1,4 @@
 // What a call answered, as text.
-use note_text::put_noted;
 use outline_text::line_at;
 use outline_text::put_rings;
 use outline_text::put_summary;
@@ -10,7 +9,7 @@ use text::put_bytes;
 ghost use Prim.Native.Nat.{_≤_};
 ghost use lib.ListN.{length};
 ghost use Rattle.text.specs.Text.{Wrote};
-ghost use Rattle.report.specs.Answers.{nothingText, closedText, countedText, outlineText};
+ghost use Rattle.report.specs.Answers.{countedText, outlineText};
 
 // An outline of so many cells: what it counts, then each ring.
 fn put_counted(
@@ -46,7 +45,7 @@ fn put_counted(
     )
 }
 
-// The whole report of an answer: what it counts and each ring, or why there is none.
+// The whole report of an answer: what it counts, and each ring or why there is none; or a refusal.
 pub fn put_outline(
     out: &mut [u8],
     at: usize,
@@ -66,14 +65,14 @@ pub fn put_outline(
     ensures { λ r. ⌜ Wrote (now (out .entry)) at (now (out .exit)) r (outlineText (now (table .entry)) (now (list .entry)) (now (lines .entry)) (now (edges .entry)) rows answer (now (start .entry)) (now (size .entry)) (now (group .entry)) (now (area .entry)) (now («row_list» .entry))) ⌝ }
 {
     match answer {
-        ReadOut::Nothing => put_bytes(out, at, b"nothing: the list has no cells\n"),
-        ReadOut::Closed => put_noted(
-            out,
-            at,
-            b"closed: ",
-            lines.len(),
-            b" cells, and no edge stands\n",
-        ),
+        ReadOut::Nothing => {
+            let counted = put_summary(out, at, edges.len(), lines.len(), 0, 0, 0);
+            put_bytes(out, counted, b"nothing: the list has no cells\n")
+        }
+        ReadOut::Closed => {
+            let counted = put_summary(out, at, edges.len(), lines.len(), 0, 0, 0);
+            put_bytes(out, counted, b"closed: no edge stands\n")
+        }
         ReadOut::Outline(polygons, rings, _) => put_counted(
             out,
             at,

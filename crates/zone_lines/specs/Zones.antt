@@ -26,8 +26,8 @@ countsText cells polygons rings edges first =
 
 -- The names of the two files; the lines of the cells; the table's edges; the answer and what was read out. A refusal is one line alone.
 unfoldable pub zoneText : List ℕ → List ℕ → List ℕ → List ℕ → ReadOut → Output → List ℕ
-zoneText table list lines edges Nothing o = list ++ ascii ": nothing, the list has no cells\n"
-zoneText table list lines edges Closed o = list ++ noted (ascii ": closed, cells ") (length lines) (ascii ", no edge stands\n")
+zoneText table list lines edges Nothing o = list ++ ascii ": nothing, cells 0, polygons 0, rings 0, standing edges 0\n"
+zoneText table list lines edges Closed o = list ++ noted (ascii ": closed, cells ") (length lines) (ascii ", polygons 0, rings 0, standing edges 0\n")
 zoneText table list lines edges (Outline polygons rings first) o =
     list ++ countsText (length lines) polygons rings (standing (o .start) (o .size) rings) first ++ ringLines edges o rings
 zoneText table list lines edges (Refused number index) o = refusalText table list number index (at lines index)

@@ -73,7 +73,11 @@ fn put_zone(
     match answer {
         ReadOut::Nothing => {
             let named = put_bytes(out, at, list);
-            put_bytes(out, named, b": nothing, the list has no cells\n")
+            put_bytes(
+                out,
+                named,
+                b": nothing, cells 0, polygons 0, rings 0, standing edges 0\n",
+            )
         }
         ReadOut::Closed => {
             let named = put_bytes(out, at, list);
@@ -82,7 +86,7 @@ fn put_zone(
                 named,
                 b": closed, cells ",
                 lines.len(),
-                b", no edge stands\n",
+                b", polygons 0, rings 0, standing edges 0\n",
             )
         }
         ReadOut::Outline(polygons, rings, first) => {

@@ -1,12 +1,16 @@
 -- `report::zones/put_outline` meets its contract. By cases.
 -- Assumes nothing.
 use borrow.Author.Needs.{needs}
+use Rattle.text.proofs.Writing.{wrote-more}
 use Rattle.report.specs.Answers.{outlineText}
 use Rattle.report.proofs.zones.put_outline.Statement.{statement}
 use Rattle.report.proofs.zones.put_outline.Tie as tie
 
 enum-told : tie.Need-enum-told
 enum-told c = search needs
+
+put-summary-requires : tie.Need-put-summary-requires
+put-summary-requires c κs = search needs
 
 slice-aggregate-put-bytes : tie.Need-slice-aggregate-put-bytes
 slice-aggregate-put-bytes c = search needs
@@ -17,14 +21,14 @@ put-bytes-requires c κs = search needs
 enum-told-2 : tie.Need-enum-told-2
 enum-told-2 c = search needs
 
-slice-aggregate-put-noted : tie.Need-slice-aggregate-put-noted
-slice-aggregate-put-noted c = search needs
+put-summary-requires-2 : tie.Need-put-summary-requires-2
+put-summary-requires-2 c κs = search needs
 
-slice-aggregate-put-noted-2 : tie.Need-slice-aggregate-put-noted-2
-slice-aggregate-put-noted-2 c = search needs
+slice-aggregate-put-bytes-2 : tie.Need-slice-aggregate-put-bytes-2
+slice-aggregate-put-bytes-2 c = search needs
 
-put-noted-requires : tie.Need-put-noted-requires
-put-noted-requires c κs = search needs
+put-bytes-requires-2 : tie.Need-put-bytes-requires-2
+put-bytes-requires-2 c κs = search needs
 
 enum-known-answer : tie.Need-enum-known-answer
 enum-known-answer c = search needs
@@ -46,14 +50,14 @@ same-length c = search needs
 
 returns : tie.Need-returns
 unfolding outlineText
-returns c = rw (c .before .before .before .before .before .enum-told .given .1) (c .before .before .put-bytes .ensures)
+returns c = rw (c .before .before .before .before .before .before .before .before .before .enum-told .given .1) (wrote-more (c .before .before .before .before .before .before .before .put-summary .ensures) (c .before .before .put-bytes .ensures))
 
 same-length-2 : tie.Need-same-length-2
 same-length-2 c = search needs
 
 returns-2 : tie.Need-returns-2
 unfolding outlineText
-returns-2 c = rw (c .before .before .before .before .before .before .enum-told2 .given .1) (c .before .before .put-noted .ensures)
+returns-2 c = rw (c .before .before .before .before .before .before .before .before .before .enum-told2 .given .1) (wrote-more (c .before .before .before .before .before .before .before .put-summary2 .ensures) (c .before .before .put-bytes2 .ensures))
 
 same-length-3 : tie.Need-same-length-3
 same-length-3 c = search needs
@@ -74,12 +78,13 @@ put-outline-spec =
     tie.close
     (tie.spec
     enum-told
+    put-summary-requires
     slice-aggregate-put-bytes
     put-bytes-requires
     enum-told-2
-    slice-aggregate-put-noted
-    slice-aggregate-put-noted-2
-    put-noted-requires
+    put-summary-requires-2
+    slice-aggregate-put-bytes-2
+    put-bytes-requires-2
     enum-known-answer
     put-counted-requires
     enum-known-answer-2

@@ -1,7 +1,7 @@
 // Arrays of full size, for the programs: 65,536 rows, 65,536 slots, 16,384 places. Those of an output promise that they hold zeros, so that
 // two outputs can be compared whole; the others their length alone: nothing counts on what is in them.
 //
-// They all lie on the stack, where a program is to stay under 7 MB. In bytes:
+// They all lie on the stack, of which bin/tool asks 8 MB. In bytes:
 //     a table      1,310,720   row_words, row_numbers, row_floats
 //     a state      1,900,544   place_words, 3 place_numbers, 4 slot_numbers, 2 row_numbers
 //     an output      786,432   3 ring_numbers, ring_floats, edge_numbers

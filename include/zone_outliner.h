@@ -85,8 +85,8 @@ uint64_t zone_standing(const uint8_t *table, size_t table_length, uint8_t *state
  * cells, parent, rank, cell_mark         one for each place: the state's capacity for cells, 1 to 16,384
  * slot_row, slot_cell, prev, next        one for each slot: the pool, 1 to 65,536; as many as rows are always enough
  * row_slot, row_mark                     one for each row
- * start, size, group, ring_area          one for each ring that can be written, all of one length; as many as rows are always enough
- * ring_edges                             the rows of all rings; as many as rows are always enough
+ * start, size, group, ring_area          one for each ring that can be written, all of one length; half as many as rows are always enough
+ * ring_edges                             the rows of all rings; half as many as rows are always enough
  * summary                                length 4, else refusal 10, tested first, and nothing is written: kind (0 nothing, 1 closed, 2 outline),
  *                                        polygons, rings, and the bits of the first outer area; for nothing and closed 0 after the kind. A
  *                                        NaN's bits are 7FF8000000000000

@@ -1,6 +1,6 @@
 // outline TABLE CELLS: dissolves a list of cells and prints its outline: a summary, then each polygon with its rings. All that can be
 // stated of it is in the functions called, of which `report_zone` is the last: here they are put in a row.
-// Its arrays take 5.6 MB of stack (desk::arrays has them one by one), and with the library's own the program takes 6.5 MB.
+// Its arrays take 5.7 MB of stack (desk::arrays has them one by one), and with the library's own the program takes 6.6 MB.
 mod zone;
 
 use arguments::Begun;

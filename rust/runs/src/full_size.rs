@@ -5,14 +5,16 @@ use crate::{
     tables::{
         Given,
         real::Folder,
-        regions::{disk, elsewhere, mixed, scattered, with_more_pairs},
+        regions::{apart, disk, elsewhere, mixed, scattered, with_more_pairs},
         torus::ancestor,
     },
 };
 use std::{fs, path::Path};
 
-/// A file's room in a tool: 65,536 rows of 20 bytes.
-const ROOM: usize = 1_310_720;
+/// A file's room in a tool, and a report's.
+const ROOM: usize = 1_441_792;
+/// As many cells that do not touch as 65,536 rows have room for: each has twelve, its edges and their reverses.
+const MOST_APART: usize = 5_461;
 /// As many cells as a list may have, and a feed.
 const MOST_CELLS: usize = 16_384;
 const MOST_OFFERED: usize = 65_536;
@@ -27,6 +29,9 @@ pub fn write(folder: &Folder, to: &str) -> Result<(), String> {
     let full = table_bytes(&with_more_pairs(&big.table, 1));
     write("full.table", &full)?;
     write("long.table", &[full.as_slice(), &[0]].concat())?;
+    let (table, cells) = apart(&big.table, MOST_APART);
+    write("apart.table", &table_bytes(&table))?;
+    write("apart.cells", text(&cells).as_bytes())?;
     for (name, list) in lists(&big) {
         write(name, text(&list).as_bytes())?;
     }

@@ -81,3 +81,14 @@ pub fn with_more_pairs(table: &Table, count: usize) -> Table {
     pairs.extend(elsewhere(2 * count).chunks_exact(2).map(|cells| (edge(cells[0], 6), edge(cells[1], 6))));
     table_of_pairs(&pairs, |row| table.area.get(row).copied().unwrap_or(0.))
 }
+
+/// So many cells elsewhere, and a table of their edges with the area terms of another: each edge's reverse is one of a cell beside them that is
+/// not among them, so that no two touch.
+pub fn apart(table: &Table, count: usize) -> (Table, Vec<u64>) {
+    let cells = elsewhere(2 * count);
+    let both = cells.chunks_exact(2);
+    let pairs =
+        both.flat_map(|two| (1..=6).map(|number| (edge(two[0], number), edge(two[1], number)))).collect::<Vec<_>>();
+    let taken = cells.iter().copied().step_by(2).collect();
+    (table_of_pairs(&pairs, |row| table.area[row]), taken)
+}

@@ -8,7 +8,7 @@ use Rattle.desk.proofs.arrays.text_bytes.Statement.{statement}
 use Rattle.desk.proofs.arrays.text_bytes.Tie as tie
 
 returns : tie.Need-returns
-returns c = sym (length-replicate {0} {A = ℕ} 1310720 0)
+returns c = sym (length-replicate {0} {A = ℕ} 1441792 0)
 
 pub text-bytes-spec : {M : Type 1} → statement M
 text-bytes-spec = tie.close (tie.spec returns)

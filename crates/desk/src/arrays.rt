@@ -89,7 +89,7 @@ pub fn feed_lines() -> [usize; 65536]
 }
 
 // The bytes of a file, and then of a report. A table of 65,536 rows has 1,310,720 bytes; the longest report on real cells, 5,461 that do not
-// touch, has 1,191,735. The rest is for made-up tables with more rings. A text that just fits cannot be told from one cut off, and is not printed.
+// touch, has some 1,190,000. The rest is for made-up tables with more rings. A text that just fits cannot be told from one cut off, and is not printed.
 pub fn text_bytes() -> [u8; 1441792]
     ensures { λ r. ⌜ 1441792 ≡ length r ⌝ }
 {

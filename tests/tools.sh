@@ -165,6 +165,12 @@ for tool in outline till_import year_audit; do
   refused "$work/word.cells line 2, byte 1: a line has one cell, 1 to 16 hexadecimal digits, with or without 0x" bin/$tool "$table" "$work/word.cells"
 done
 
+# ---- an environment of nearly 1 MB, which lies on the stack beside a tool's memory
+
+large=$(head -c 120000 /dev/zero | tr '\0' x)
+tells 'points over 0' env A="$large" B="$large" C="$large" D="$large" E="$large" F="$large" G="$large" H="$large" bin/year_audit "$table" samples/year.feed
+tells 'polygons 2' env A="$large" B="$large" C="$large" D="$large" E="$large" F="$large" G="$large" H="$large" bin/outline "$table" "$zone"
+
 # ---- a file that may not be read, where the tests do not run as root, whom nothing stops
 
 if [ "$(id -u)" -ne 0 ]; then

@@ -54,8 +54,8 @@ countText name n = noted name n (ascii "\n")
 
 unfoldable pub summaryText : ℕ → ℕ → ℕ → ℕ → ℕ → List ℕ
 summaryText rows cells polygons rings edges =
-    countText (ascii "table edges ") rows
-    ++ countText (ascii "cells ") cells
+    countText (ascii "cells ") cells
     ++ countText (ascii "polygons ") polygons
     ++ countText (ascii "rings ") rings
+    ++ countText (ascii "table edges ") rows
     ++ countText (ascii "standing edges ") edges

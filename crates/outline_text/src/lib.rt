@@ -173,9 +173,9 @@ pub fn put_summary(
     requires { ⌜ at ≤ length (now out) ⌝ }
     ensures { λ r. ⌜ Wrote (now (out .entry)) at (now (out .exit)) r (summaryText rows cells polygons rings edges) ⌝ }
 {
-    let of_table = put_noted(out, at, b"table edges ", rows, b"\n");
-    let of_cells = put_noted(out, of_table, b"cells ", cells, b"\n");
+    let of_cells = put_noted(out, at, b"cells ", cells, b"\n");
     let of_polygons = put_noted(out, of_cells, b"polygons ", polygons, b"\n");
     let of_rings = put_noted(out, of_polygons, b"rings ", rings, b"\n");
-    put_noted(out, of_rings, b"standing edges ", edges, b"\n")
+    let of_table = put_noted(out, of_rings, b"table edges ", rows, b"\n");
+    put_noted(out, of_table, b"standing edges ", edges, b"\n")
 }

@@ -104,8 +104,8 @@ fn measure(ring: &Ring) -> String {
 }
 
 fn outline(zone: &Zone) -> String {
-    let mut said = format!("table edges {}\ncells {}\n", zone.table.rows(), zone.cells);
-    said += &format!("polygons {}\nrings {}\n", zone.polygons.len(), zone.rings());
+    let mut said = format!("cells {}\npolygons {}\n", zone.cells, zone.polygons.len());
+    said += &format!("rings {}\ntable edges {}\n", zone.rings(), zone.table.rows());
     said += &format!("standing edges {}\n", zone.standing());
     for rings in &zone.polygons {
         said += &format!("polygon of group {}\n", rings[0].group);

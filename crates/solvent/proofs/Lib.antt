@@ -1,3 +1,3 @@
--- Laws that the proof of dissolve uses, and what the promises of the four calls allow.
+-- Laws that the proof of dissolve uses, and what its promise allows.
 pub mod Dissolves
 pub mod Determined

@@ -11,10 +11,9 @@ use scope::ReadOut;
 pub use standing::offer;
 pub use standing::open;
 pub use standing::read_out;
-ghost use mathlib.Core.Path.{_≡_};
 ghost use Rattle.scope.specs.Table.{table};
 ghost use Rattle.scope.specs.Memory.{memory, output};
-ghost use Rattle.scope.specs.Calls.{Reading, dissolving};
+ghost use Rattle.solvent.specs.Promises.{Dissolves};
 
 // A whole list of cells: 10, 1, 2, 3, 4, 3, 8 over the list, then 5, 6, 7 for each cell in turn, and 10 where an output is too short.
 pub fn dissolve(
@@ -40,8 +39,8 @@ pub fn dissolve(
     ring_edges: &mut [u32],
     mode: usize,
 ) -> ReadOut
-    ensures { λ r. ⌜ record { answer = r; left = memory (now (head .exit)) (now (cells .exit)) (now (parent .exit)) (now (rank .exit)) (now («cell_mark» .exit)) (now («slot_row» .exit)) (now («slot_cell» .exit)) (now (prev .exit)) (now (next .exit)) (now («row_slot» .exit)) (now («row_mark» .exit)); out = output (now (start .exit)) (now (size .exit)) (now (group .exit)) (now («ring_area» .exit)) (now («ring_edges» .exit)) }
-        ≡ dissolving (table (now (edges .entry)) (now (reverse .entry)) (now (area .entry))) (memory (now (head .entry)) (now (cells .entry)) (now (parent .entry)) (now (rank .entry)) (now («cell_mark» .entry)) (now («slot_row» .entry)) (now («slot_cell» .entry)) (now (prev .entry)) (now (next .entry)) (now («row_slot» .entry)) (now («row_mark» .entry))) mode (now (list .entry)) (output (now (start .entry)) (now (size .entry)) (now (group .entry)) (now («ring_area» .entry)) (now («ring_edges» .entry))) ⌝ }
+    ensures { λ r. ⌜ Dissolves (table (now (edges .entry)) (now (reverse .entry)) (now (area .entry))) (memory (now (head .entry)) (now (cells .entry)) (now (parent .entry)) (now (rank .entry)) (now («cell_mark» .entry)) (now («slot_row» .entry)) (now («slot_cell» .entry)) (now (prev .entry)) (now (next .entry)) (now («row_slot» .entry)) (now («row_mark» .entry))) mode (now (list .entry)) (output (now (start .entry)) (now (size .entry)) (now (group .entry)) (now («ring_area» .entry)) (now («ring_edges» .entry)))
+        r (memory (now (head .exit)) (now (cells .exit)) (now (parent .exit)) (now (rank .exit)) (now («cell_mark» .exit)) (now («slot_row» .exit)) (now («slot_cell» .exit)) (now (prev .exit)) (now (next .exit)) (now («row_slot» .exit)) (now («row_mark» .exit))) (output (now (start .exit)) (now (size .exit)) (now (group .exit)) (now («ring_area» .exit)) (now («ring_edges» .exit))) ⌝ }
 {
     let fits = both_agree(edges.len(), reverse.len(), area.len())
         & (head.len() == 2)

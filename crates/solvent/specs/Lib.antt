@@ -1,0 +1,2 @@
+-- What dissolve promises.
+pub mod Promises

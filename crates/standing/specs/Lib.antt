@@ -1,0 +1,2 @@
+-- What the calls on a standing state promise.
+pub mod Promises

@@ -7,9 +7,9 @@ use byte_read::read_within;
 use scope::Verdict;
 use wire::numbers::result;
 ghost use mathlib.Core.Path.{_≡_};
-ghost use mathlib.Core.List.{[]};
-ghost use Rattle.scope.specs.Bytes.{rowsIn, tableIn, stateIn, calling, zoneDissolving, zoneStanding};
+ghost use Rattle.scope.specs.Bytes.{rowsIn, tableIn, stateIn, calling};
 ghost use Rattle.byte_limits.specs.Within.{StandingWithin};
+ghost use Rattle.byte_calls.specs.Promises.{DissolvesBytes, CallsBytes};
 
 // Dissolves a list of cells.
 pub fn dissolve(
@@ -20,7 +20,7 @@ pub fn dissolve(
     slots: u32,
     places: u32,
 ) -> u64
-    ensures { λ r. ⌜ record { result = r; state = []; out = now (out .exit) } ≡ zoneDissolving (now (table .entry)) (now (cells .entry)) (now (out .entry)) mode slots places ⌝ }
+    ensures { λ r. ⌜ DissolvesBytes (now (table .entry)) (now (cells .entry)) (now (out .entry)) mode slots places r (now (out .exit)) ⌝ }
 {
     if !dissolve_fits(table, cells, slots, places) {
         return result(Verdict::Refused(10, 0));
@@ -67,7 +67,7 @@ pub fn standing(
     call: u32,
     value: u64,
 ) -> u64
-    ensures { λ r. ⌜ record { result = r; state = now (state .exit); out = now (out .exit) } ≡ zoneStanding (now (table .entry)) (now (state .entry)) (now (out .entry)) slots places call value ⌝ }
+    ensures { λ r. ⌜ CallsBytes (now (table .entry)) (now (state .entry)) (now (out .entry)) slots places call value r (now (state .exit)) (now (out .exit)) ⌝ }
 {
     if !standing_fits(table, state, slots, places) {
         return result(Verdict::Refused(10, 0));

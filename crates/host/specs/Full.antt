@@ -1,6 +1,7 @@
 -- The calls at full size, as numbers: a result in place of the answer, and a summary of what is read out.
 -- Assumes nothing.
 use Prim.Native.Nat.{ℕ}
+use mathlib.Core.Path.{_≡_}
 use mathlib.Core.Bool.{cond}
 use mathlib.Core.List.{List}
 use lib.Dec.{eqb}
@@ -9,7 +10,7 @@ use Rattle.scope.specs.declared.Verdict.the-variants.{Refused}
 use Rattle.scope.specs.Answers.{verdictOf, ifAccepted}
 use Rattle.scope.specs.Table.{Table}
 use Rattle.scope.specs.Memory.{Memory, Output}
-use Rattle.scope.specs.Calls.{Outcome, Reading, readingOut, dissolving}
+use Rattle.scope.specs.Calls.{Outcome, opening, offering, Reading, readingOut, dissolving}
 use Rattle.scope.specs.Bytes.{resultOf}
 use Rattle.telling.specs.Summary.{summaryOf}
 
@@ -49,3 +50,18 @@ readingTold t m o summary = fourNumbers summary m o (told (readingOut t m o) sum
 
 unfoldable pub dissolvingTold : Table → Memory → ℕ → List ℕ → Output → List ℕ → Told
 dissolvingTold t m mode cs o summary = fourNumbers summary m o (told (dissolving t m mode cs o) summary)
+
+-- ---- what the exports promise: this result, and the memory, the outputs and the summary left
+
+abbrev pub CallsOpen : Table → Memory → ℕ → ℕ → Memory → Type 0
+CallsOpen t m mode result left = record { result = result; left = left } ≡ called (opening t m mode)
+
+abbrev pub CallsOffer : Table → Memory → ℕ → ℕ → Memory → Type 0
+CallsOffer t m cell result left = record { result = result; left = left } ≡ called (offering t m cell)
+
+abbrev pub TellsReadOut : Table → Memory → Output → List ℕ → ℕ → Memory → Output → List ℕ → Type 0
+TellsReadOut t m o summary result left out summary′ = record { result = result; left = left; out = out; summary = summary′ } ≡ readingTold t m o summary
+
+abbrev pub TellsDissolve : Table → Memory → ℕ → List ℕ → Output → List ℕ → ℕ → Memory → Output → List ℕ → Type 0
+TellsDissolve t m mode cs o summary result left out summary′ =
+    record { result = result; left = left; out = out; summary = summary′ } ≡ dissolvingTold t m mode cs o summary

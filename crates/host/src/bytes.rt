@@ -1,9 +1,7 @@
 // Both ways in on byte slices, for small tables, under the names that Rust and C link.
 use byte_calls::dissolve;
 use byte_calls::standing;
-ghost use mathlib.Core.Path.{_≡_};
-ghost use mathlib.Core.List.{[]};
-ghost use Rattle.scope.specs.Bytes.{zoneDissolving, zoneStanding};
+ghost use Rattle.byte_calls.specs.Promises.{DissolvesBytes, CallsBytes};
 
 // Dissolves a list of cells.
 #[no_mangle]
@@ -15,7 +13,7 @@ pub extern "C" fn zone_dissolve(
     slots: u32,
     places: u32,
 ) -> u64
-    ensures { λ r. ⌜ record { result = r; state = []; out = now (out .exit) } ≡ zoneDissolving (now (table .entry)) (now (cells .entry)) (now (out .entry)) mode slots places ⌝ }
+    ensures { λ r. ⌜ DissolvesBytes (now (table .entry)) (now (cells .entry)) (now (out .entry)) mode slots places r (now (out .exit)) ⌝ }
 {
     dissolve(table, cells, out, mode, slots, places)
 }
@@ -31,7 +29,7 @@ pub extern "C" fn zone_standing(
     call: u32,
     value: u64,
 ) -> u64
-    ensures { λ r. ⌜ record { result = r; state = now (state .exit); out = now (out .exit) } ≡ zoneStanding (now (table .entry)) (now (state .entry)) (now (out .entry)) slots places call value ⌝ }
+    ensures { λ r. ⌜ CallsBytes (now (table .entry)) (now (state .entry)) (now (out .entry)) slots places call value r (now (state .exit)) (now (out .exit)) ⌝ }
 {
     standing(table, state, out, slots, places, call, value)
 }

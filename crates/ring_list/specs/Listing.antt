@@ -2,9 +2,11 @@
 -- The answer, the memory and the outputs are the core's, and the records are those of the outputs.
 -- Assumes nothing.
 use Prim.Native.Nat.{ℕ}
+use mathlib.Core.Path.{_≡_}
 use mathlib.Core.List.{List}
 use lib.Dec.{eqb}
 use lib.ListN.{length}
+use Rattle.scope.specs.declared.ReadOut.{ReadOut}
 use Rattle.scope.specs.Answers.{require, ringsOf}
 use Rattle.scope.specs.Table.{Table}
 use Rattle.scope.specs.Memory.{Memory, Output}
@@ -39,3 +41,12 @@ readingRings t m o rings = listed (readingAgreed t m o (length rings)) rings
 
 unfoldable pub dissolvingRings : Table → Memory → ℕ → List ℕ → Output → List Ring → Listing
 dissolvingRings t m mode cs o rings = listed (dissolvingAgreed t m mode cs o (length rings)) rings
+
+-- ---- what the two calls promise: this answer, and the memory, the outputs and the records left
+
+abbrev pub ReadsRings : Table → Memory → Output → List Ring → ReadOut → Memory → Output → List Ring → Type 0
+ReadsRings t m o rings answer left out rings′ = record { reading = record { answer = answer; left = left; out = out }; rings = rings′ } ≡ readingRings t m o rings
+
+abbrev pub DissolvesRings : Table → Memory → ℕ → List ℕ → Output → List Ring → ReadOut → Memory → Output → List Ring → Type 0
+DissolvesRings t m mode cs o rings answer left out rings′ =
+    record { reading = record { answer = answer; left = left; out = out }; rings = rings′ } ≡ dissolvingRings t m mode cs o rings

@@ -8,11 +8,9 @@ pub use ring_records::Ring;
 pub use ring_records::fill_rings;
 pub use ring_records::ring_count;
 use scope::ReadOut;
-ghost use mathlib.Core.Path.{_≡_};
 ghost use Rattle.scope.specs.Table.{table};
 ghost use Rattle.scope.specs.Memory.{memory, output};
-ghost use Rattle.scope.specs.Calls.{Reading};
-ghost use Rattle.ring_list.specs.Listing.{Listing, readingRings, dissolvingRings};
+ghost use Rattle.ring_list.specs.Listing.{ReadsRings, DissolvesRings};
 
 // Read out, and the records of what it has written. Refused, it leaves the records as they were.
 pub fn read_out(
@@ -37,8 +35,8 @@ pub fn read_out(
     ring_area: &mut [f64],
     ring_edges: &mut [u32],
 ) -> ReadOut
-    ensures { λ r. ⌜ record { reading = record { answer = r; left = memory (now (head .entry)) (now (cells .entry)) (now (parent .entry)) (now (rank .entry)) (now («cell_mark» .exit)) (now («slot_row» .entry)) (now («slot_cell» .entry)) (now (prev .entry)) (now (next .entry)) (now («row_slot» .entry)) (now («row_mark» .exit)); out = output (now (start .exit)) (now (size .exit)) (now (group .exit)) (now («ring_area» .exit)) (now («ring_edges» .exit)) }; rings = now (rings .exit) }
-        ≡ readingRings (table (now (edges .entry)) (now (reverse .entry)) (now (area .entry))) (memory (now (head .entry)) (now (cells .entry)) (now (parent .entry)) (now (rank .entry)) (now («cell_mark» .entry)) (now («slot_row» .entry)) (now («slot_cell» .entry)) (now (prev .entry)) (now (next .entry)) (now («row_slot» .entry)) (now («row_mark» .entry))) (output (now (start .entry)) (now (size .entry)) (now (group .entry)) (now («ring_area» .entry)) (now («ring_edges» .entry))) (now (rings .entry)) ⌝ }
+    ensures { λ r. ⌜ ReadsRings (table (now (edges .entry)) (now (reverse .entry)) (now (area .entry))) (memory (now (head .entry)) (now (cells .entry)) (now (parent .entry)) (now (rank .entry)) (now («cell_mark» .entry)) (now («slot_row» .entry)) (now («slot_cell» .entry)) (now (prev .entry)) (now (next .entry)) (now («row_slot» .entry)) (now («row_mark» .entry))) (output (now (start .entry)) (now (size .entry)) (now (group .entry)) (now («ring_area» .entry)) (now («ring_edges» .entry))) (now (rings .entry))
+        r (memory (now (head .entry)) (now (cells .entry)) (now (parent .entry)) (now (rank .entry)) (now («cell_mark» .exit)) (now («slot_row» .entry)) (now («slot_cell» .entry)) (now (prev .entry)) (now (next .entry)) (now («row_slot» .entry)) (now («row_mark» .exit))) (output (now (start .exit)) (now (size .exit)) (now (group .exit)) (now («ring_area» .exit)) (now («ring_edges» .exit))) (now (rings .exit)) ⌝ }
 {
     let answer = read_out_agreed(
         edges,
@@ -92,8 +90,8 @@ pub fn dissolve(
     ring_edges: &mut [u32],
     mode: usize,
 ) -> ReadOut
-    ensures { λ r. ⌜ record { reading = record { answer = r; left = memory (now (head .exit)) (now (cells .exit)) (now (parent .exit)) (now (rank .exit)) (now («cell_mark» .exit)) (now («slot_row» .exit)) (now («slot_cell» .exit)) (now (prev .exit)) (now (next .exit)) (now («row_slot» .exit)) (now («row_mark» .exit)); out = output (now (start .exit)) (now (size .exit)) (now (group .exit)) (now («ring_area» .exit)) (now («ring_edges» .exit)) }; rings = now (rings .exit) }
-        ≡ dissolvingRings (table (now (edges .entry)) (now (reverse .entry)) (now (area .entry))) (memory (now (head .entry)) (now (cells .entry)) (now (parent .entry)) (now (rank .entry)) (now («cell_mark» .entry)) (now («slot_row» .entry)) (now («slot_cell» .entry)) (now (prev .entry)) (now (next .entry)) (now («row_slot» .entry)) (now («row_mark» .entry))) mode (now (list .entry)) (output (now (start .entry)) (now (size .entry)) (now (group .entry)) (now («ring_area» .entry)) (now («ring_edges» .entry))) (now (rings .entry)) ⌝ }
+    ensures { λ r. ⌜ DissolvesRings (table (now (edges .entry)) (now (reverse .entry)) (now (area .entry))) (memory (now (head .entry)) (now (cells .entry)) (now (parent .entry)) (now (rank .entry)) (now («cell_mark» .entry)) (now («slot_row» .entry)) (now («slot_cell» .entry)) (now (prev .entry)) (now (next .entry)) (now («row_slot» .entry)) (now («row_mark» .entry))) mode (now (list .entry)) (output (now (start .entry)) (now (size .entry)) (now (group .entry)) (now («ring_area» .entry)) (now («ring_edges» .entry))) (now (rings .entry))
+        r (memory (now (head .exit)) (now (cells .exit)) (now (parent .exit)) (now (rank .exit)) (now («cell_mark» .exit)) (now («slot_row» .exit)) (now («slot_cell» .exit)) (now (prev .exit)) (now (next .exit)) (now («row_slot» .exit)) (now («row_mark» .exit))) (output (now (start .exit)) (now (size .exit)) (now (group .exit)) (now («ring_area» .exit)) (now («ring_edges» .exit))) (now (rings .exit)) ⌝ }
 {
     let answer = dissolve_agreed(
         edges,

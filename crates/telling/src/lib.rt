@@ -7,9 +7,8 @@ use wire::numbers::verdict_of;
 ghost use mathlib.Core.Path.{_≡_};
 ghost use Prim.Native.Nat.{_≤_};
 ghost use lib.ListN.{length};
-ghost use Rattle.scope.specs.Answers.{refusalOf, verdictOf, ifAccepted};
-ghost use Rattle.scope.specs.Bytes.{resultOf};
-ghost use Rattle.telling.specs.Summary.{summaryOf};
+ghost use Rattle.scope.specs.Answers.{refusalOf, verdictOf};
+ghost use Rattle.telling.specs.Summary.{summaryOf, Tells};
 
 // The four numbers of an answer.
 fn store_summary(summary: &mut [u64], answer: ReadOut)
@@ -26,8 +25,7 @@ fn store_summary(summary: &mut [u64], answer: ReadOut)
 // The result, with the summary of an answer that is no refusal.
 pub fn tell(summary: &mut [u64], answer: ReadOut) -> u64
     requires { ⌜ (length (now summary) ≡ 4) × (refusalOf (verdictOf answer) ≤ 10) ⌝ }
-    ensures { λ r. ⌜ r ≡ resultOf (verdictOf answer) ⌝ }
-    ensures { λ _. ⌜ now (summary .exit) ≡ ifAccepted (verdictOf answer) (summaryOf answer) (now (summary .entry)) ⌝ }
+    ensures { λ r. ⌜ Tells answer (now (summary .entry)) r (now (summary .exit)) ⌝ }
 {
     let verdict = verdict_of(answer);
     if is_accepted(verdict) {

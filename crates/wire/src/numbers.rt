@@ -4,8 +4,9 @@ use scope::ReadOut;
 use scope::Verdict;
 ghost use mathlib.Core.Path.{_≡_};
 ghost use Prim.Native.Nat.{_≤_, _<_, _^_};
-ghost use Rattle.scope.specs.Answers.{refusalOf, kindOf, verdictOf, polygonsOf, ringsOf, require, _▷_};
-ghost use Rattle.scope.specs.Bytes.{in32, resultOf, areaBits};
+ghost use Rattle.scope.specs.Answers.{refusalOf, verdictOf, require, _▷_};
+ghost use Rattle.scope.specs.Bytes.{in32, resultOf};
+ghost use Rattle.wire.specs.Sums.{Sums};
 
 // An index in 32 bits; the largest stands for all past it.
 fn index_in_32(n: usize) -> u64
@@ -61,7 +62,7 @@ pub struct Summary {
 }
 
 pub fn summarise(answer: ReadOut) -> Summary
-    ensures { λ r. ⌜ (r .kind ≡ kindOf answer) × (r .polygons ≡ polygonsOf answer) × (r .rings ≡ ringsOf answer) × (r .area ≡ areaBits answer) ⌝ }
+    ensures { λ r. ⌜ Sums answer r ⌝ }
 {
     match answer {
         ReadOut::Nothing => Summary {

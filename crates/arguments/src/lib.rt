@@ -1,10 +1,10 @@
 // The arguments that a tool was called with, read word by word and answered: by its help, by the one line for what is wrong with them, or
 // by nothing, where all that is needed is there. No contract can say which bytes an argument has: what the words come to is `command_line`'s.
-use command_line::complaint::put_complaint;
-use command_line::help::put_help;
 use command_line::line::Line;
 use command_line::line::Status;
 use command_line::tools::Tool;
+use command_text::complaint::put_complaint;
+use command_text::help::put_help;
 use desk::words::complain_text;
 use desk::words::say_text;
 ghost use Rattle.io.specs.Counts.{Counts};

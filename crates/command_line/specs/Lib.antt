@@ -1,6 +1,4 @@
--- What the command lines of the tools mean, and what is said of one that cannot be taken.
+-- What the command lines of the tools mean.
 pub mod Tools
 pub mod Words
 pub mod Lines
-pub mod Complaints
-pub mod Help

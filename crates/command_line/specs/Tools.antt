@@ -1,9 +1,6 @@
 -- The tools, and how their command lines differ: outline alone has options beside --help, till_import alone takes more than one list.
 -- Assumes nothing.
-use Prim.Native.Nat.{ℕ}
 use mathlib.Core.Bool.{Bool, true, false}
-use mathlib.Core.List.{List}
-use Rattle.text.specs.Text.{ascii}
 use Rattle.command_line.specs.declared.tools.Tool.{Tool}
 use Rattle.command_line.specs.declared.tools.Tool.the-variants.{Outline, TillImport, YearAudit}
 
@@ -16,8 +13,3 @@ abbrev pub takesMany : Tool → Bool
 takesMany Outline = false
 takesMany TillImport = true
 takesMany YearAudit = false
-
-unfoldable pub nameText : Tool → List ℕ
-nameText Outline = ascii "outline"
-nameText TillImport = ascii "till_import"
-nameText YearAudit = ascii "year_audit"

@@ -1,7 +1,5 @@
-// The command lines of the three tools, decided the same way for all: what a word means, what the words come to, the one line for the first
-// that cannot be taken, and the help. All on slices of bytes; a program reads its arguments and prints.
-pub mod complaint;
-pub mod help;
+// The command lines of the three tools, decided the same way for all: what a word means, and what the words come to. All on slices of
+// bytes; what is said of a command line is `command_text`'s, and a program reads its arguments and prints.
 pub mod line;
 pub mod tools;
-mod words;
+pub mod words;

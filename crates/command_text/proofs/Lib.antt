@@ -1,0 +1,2 @@
+-- For the reader, complaints by example.
+pub mod Examples

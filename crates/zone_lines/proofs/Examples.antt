@@ -1,4 +1,4 @@
--- Lines that compute: edges in ring order, a hole and an island, a refused list.
+-- Lines that compute: a refused list, and a zone of one ring.
 -- Assumes nothing.
 use mathlib.Core.Path.{_≡_, refl}
 use mathlib.Core.List.{[], _∷_}
@@ -9,21 +9,8 @@ use Rattle.scope.specs.Memory.{output}
 use Rattle.text.specs.Text.{ascii, numeralIn, numeral}
 use Rattle.note_text.specs.Notes.{areaDecimal}
 use Rattle.refusal_text.specs.Refusals.{refusalWords, refusalPlace, refusalText}
-use Rattle.zone_lines.specs.Rings.{edgeWord, edgeWords, ringName, ringLine}
+use Rattle.ring_lines.specs.Rings.{edgeWord, ringName, ringLine}
 use Rattle.zone_lines.specs.Zones.{countsText, zoneText}
-
-ring-order : edgeWords (0x11 ∷ 0x12 ∷ 0x13 ∷ []) (1 ∷ 2 ∷ 0 ∷ []) 1 2 ≡ ascii " 0000000000000013 0000000000000011"
-unfolding joined edgeWord numeralIn numeral
-ring-order = refl
-
--- the second ring of group 4, and the first of group 0 behind it
-hole : ringName (4 ∷ 4 ∷ 0 ∷ []) 1 ≡ ascii "inner ring of group 4, area "
-unfolding ringName numeralIn numeral
-hole = refl
-
-island : ringName (4 ∷ 4 ∷ 0 ∷ []) 2 ≡ ascii "outer ring of group 0, area "
-unfolding ringName numeralIn numeral
-island = refl
 
 replay : zoneText (ascii "city.table") (ascii "shop.cells") (2 ∷ 3 ∷ 7 ∷ []) [] (Refused 3 2) (output [] [] [] [] [])
     ≡ ascii "shop.cells line 7: refused 3, this cell is there already, or lies under another\n"

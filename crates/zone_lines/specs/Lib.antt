@@ -1,4 +1,3 @@
 -- A zone as lines for the tills.
-pub mod Rings
 pub mod Zones
 pub mod Telling

@@ -12,7 +12,7 @@ use Rattle.text.specs.Text.{ascii}
 use Rattle.note_text.specs.Notes.{noted, areaText}
 use Rattle.outline_text.specs.Outlines.{standing}
 use Rattle.refusal_text.specs.Refusals.{refusalText}
-use Rattle.zone_lines.specs.Rings.{ringLines}
+use Rattle.ring_lines.specs.Rings.{ringLines}
 
 -- what an outline counts
 unfoldable pub countsText : ℕ → ℕ → ℕ → ℕ → Float → List ℕ

@@ -1,7 +1,5 @@
 // A zone as lines for the tills, as text into a lent slice: one line with its answer, then each ring as a list on one line.
 // Every slice is read as far as it goes, and 0 past its end, so that nothing is asked of them.
-mod ring_lines;
-
 use answers::is_done;
 use note_text::put_area;
 use note_text::put_noted;

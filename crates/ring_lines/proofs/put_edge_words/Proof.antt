@@ -1,13 +1,13 @@
--- `zone_lines::ring_lines::put_edge_words` meets its contract. The edges before the j-th are written.
+-- `ring_lines::put_edge_words` meets its contract. The edges before the j-th are written.
 -- Assumes nothing.
 use borrow.Author.Needs.{needs}
 use native.Mathlib.Omega.{arith}
 use Prim.Native.Nat.{_+_, _-_}
 use Rattle.scope.specs.Lists.{at as entry}
 use Rattle.text.proofs.Writing.{Runs, runs-none, runs-next, runs-all, wrote-long, wrote-within}
-use Rattle.zone_lines.specs.Rings.{edgeWord}
-use Rattle.zone_lines.proofs.ring_lines.put_edge_words.Statement.{statement}
-use Rattle.zone_lines.proofs.ring_lines.put_edge_words.Tie as tie
+use Rattle.ring_lines.specs.Rings.{edgeWord}
+use Rattle.ring_lines.proofs.put_edge_words.Statement.{statement}
+use Rattle.ring_lines.proofs.put_edge_words.Tie as tie
 
 abbrev Inv-loop : tie.InvT-loop
 Inv-loop out₀ at edges list start size place₀ j₀ out place j = Runs (λ k. edgeWord edges (entry list (start + k))) size out₀ at out place j

@@ -1,10 +1,10 @@
--- `zone_lines::ring_lines::put_ring_line` meets its contract.
+-- `ring_lines::put_ring_line` meets its contract.
 -- Assumes nothing.
 use borrow.Author.Needs.{needs}
 use Rattle.text.proofs.Writing.{wrote-more}
-use Rattle.zone_lines.specs.Rings.{ringLine}
-use Rattle.zone_lines.proofs.ring_lines.put_ring_line.Statement.{statement}
-use Rattle.zone_lines.proofs.ring_lines.put_ring_line.Tie as tie
+use Rattle.ring_lines.specs.Rings.{ringLine}
+use Rattle.ring_lines.proofs.put_ring_line.Statement.{statement}
+use Rattle.ring_lines.proofs.put_ring_line.Tie as tie
 
 at32-requires : tie.Need-at32-requires
 at32-requires c κs = search needs

@@ -1,10 +1,10 @@
--- `zone_lines::ring_lines::put_edge_word` meets its contract.
+-- `ring_lines::put_edge_word` meets its contract.
 -- Assumes nothing.
 use borrow.Author.Needs.{needs}
 use Rattle.text.proofs.Writing.{wrote-more}
-use Rattle.zone_lines.specs.Rings.{edgeWord}
-use Rattle.zone_lines.proofs.ring_lines.put_edge_word.Statement.{statement}
-use Rattle.zone_lines.proofs.ring_lines.put_edge_word.Tie as tie
+use Rattle.ring_lines.specs.Rings.{edgeWord}
+use Rattle.ring_lines.proofs.put_edge_word.Statement.{statement}
+use Rattle.ring_lines.proofs.put_edge_word.Tie as tie
 
 slice-aggregate-put-bytes : tie.Need-slice-aggregate-put-bytes
 slice-aggregate-put-bytes c = search needs

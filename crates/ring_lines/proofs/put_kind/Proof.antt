@@ -1,8 +1,8 @@
--- `zone_lines::ring_lines::put_kind` meets its contract. Outer or inner.
+-- `ring_lines::put_kind` meets its contract. Outer or inner.
 -- Assumes nothing.
 use borrow.Author.Needs.{needs}
-use Rattle.zone_lines.proofs.ring_lines.put_kind.Statement.{statement}
-use Rattle.zone_lines.proofs.ring_lines.put_kind.Tie as tie
+use Rattle.ring_lines.proofs.put_kind.Statement.{statement}
+use Rattle.ring_lines.proofs.put_kind.Tie as tie
 
 slice-aggregate-put-bytes : tie.Need-slice-aggregate-put-bytes
 slice-aggregate-put-bytes c = search needs

@@ -1,4 +1,5 @@
-// The rings of a zone, each as a list on one line.
+// The rings of a zone, each as a list on one line, as text into a lent slice.
+// Every slice is read as far as it goes, and 0 past its end, so that nothing is asked of them.
 use note_text::put_area;
 use note_text::put_noted;
 use outline_text::area_at;
@@ -11,7 +12,7 @@ ghost use Prim.Native.Nat.{_≤_, _<_, _^_};
 ghost use lib.ListN.{length};
 ghost use Rattle.scope.specs.Memory.{output};
 ghost use Rattle.text.specs.Text.{Wrote};
-ghost use Rattle.zone_lines.specs.Rings.{edgeWord, edgeWords, kindText, ringName, ringLine, ringLines};
+ghost use Rattle.ring_lines.specs.Rings.{edgeWord, edgeWords, kindText, ringName, ringLine, ringLines};
 
 // An edge by its number, behind a blank.
 fn put_edge_word(out: &mut [u8], at: usize, edges: &[u64], row: usize) -> usize

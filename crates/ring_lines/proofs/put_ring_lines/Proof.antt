@@ -1,12 +1,12 @@
--- `zone_lines::ring_lines::put_ring_lines` meets its contract. The rings before the i-th are written.
+-- `ring_lines::put_ring_lines` meets its contract. The rings before the i-th are written.
 -- Assumes nothing.
 use native.Mathlib.Omega.{arith}
 use Prim.Native.Nat.{_-_}
 use Rattle.scope.specs.Memory.{output}
 use Rattle.text.proofs.Writing.{Runs, runs-none, runs-next, runs-all, wrote-long, wrote-within}
-use Rattle.zone_lines.specs.Rings.{ringLine}
-use Rattle.zone_lines.proofs.ring_lines.put_ring_lines.Statement.{statement}
-use Rattle.zone_lines.proofs.ring_lines.put_ring_lines.Tie as tie
+use Rattle.ring_lines.specs.Rings.{ringLine}
+use Rattle.ring_lines.proofs.put_ring_lines.Statement.{statement}
+use Rattle.ring_lines.proofs.put_ring_lines.Tie as tie
 
 abbrev Inv-loop : tie.InvT-loop
 Inv-loop out₀ at edges start size group area list rings place₀ i₀ out place i = Runs (ringLine edges (output start size group area list)) rings out₀ at out place i

@@ -1,10 +1,10 @@
--- `zone_lines::ring_lines::put_ring_name` meets its contract.
+-- `ring_lines::put_ring_name` meets its contract.
 -- Assumes nothing.
 use borrow.Author.Needs.{needs}
 use Rattle.text.proofs.Writing.{wrote-more}
-use Rattle.zone_lines.specs.Rings.{ringName}
-use Rattle.zone_lines.proofs.ring_lines.put_ring_name.Statement.{statement}
-use Rattle.zone_lines.proofs.ring_lines.put_ring_name.Tie as tie
+use Rattle.ring_lines.specs.Rings.{ringName}
+use Rattle.ring_lines.proofs.put_ring_name.Statement.{statement}
+use Rattle.ring_lines.proofs.put_ring_name.Tie as tie
 
 begins-requires : tie.Need-begins-requires
 begins-requires c κs = search needs

@@ -1,0 +1,2 @@
+-- Lines that compute.
+pub mod Examples

@@ -1,0 +1,2 @@
+-- The rings of a zone, as lines.
+pub mod Rings

@@ -5,9 +5,9 @@ use Prim.Native.Char.{code}
 use Prim.Native.String.{String}
 use Prim.Native.String as string
 use mathlib.Core.Path.{_≡_}
-use mathlib.Core.Bool.{Bool, _&&_, cond}
-use mathlib.Core.List.{List, [], _∷_, _++_}
-use lib.Dec.{ltb, leb}
+use mathlib.Core.Bool.{Bool, true, false, _&&_, _||_, cond, not}
+use mathlib.Core.List.{List, [], _∷_, _++_, map}
+use lib.Dec.{eqb, ltb, leb}
 use lib.ListN.{length}
 use lib.Seq.{sets}
 
@@ -15,6 +15,19 @@ use lib.Seq.{sets}
 abbrev pub ascii : String → List ℕ
 ascii string.[] = []
 ascii (string._∷_ c s) = code c ∷ ascii s
+
+-- ---- names
+
+abbrev pub isControl : ℕ → Bool
+isControl b = ltb b 32 || eqb b 127
+
+-- A control byte, which may end a line, is shown as a question mark.
+abbrev pub shownByte : ℕ → ℕ
+shownByte b = cond (isControl b) 63 b
+
+-- a name, or a word of a command line, as it is shown
+unfoldable pub shown : List ℕ → List ℕ
+shown name = map shownByte name
 
 -- ---- numbers
 
@@ -46,3 +59,19 @@ hexadecimal n = numeral 16 16 n
 pub record Wrote (before : List ℕ) (from : ℕ) (after : List ℕ) (to : ℕ) (text : List ℕ) : Type 0 where
   pub bytes : after ≡ sets before from text
   pub place : to ≡ min (from + length text) (length before)
+
+-- ---- lines
+
+-- no byte ends a line
+unfoldable pub unbroken : List ℕ → Bool
+unbroken [] = true
+unbroken (b ∷ text) = not (eqb b 10) && unbroken text
+
+abbrev pub isEmpty : List ℕ → Bool
+isEmpty [] = true
+isEmpty (b ∷ text) = false
+
+-- one line: its first line end is its last byte
+unfoldable pub oneLine : List ℕ → Bool
+oneLine [] = false
+oneLine (b ∷ text) = cond (eqb b 10) (isEmpty text) (oneLine text)

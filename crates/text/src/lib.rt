@@ -4,7 +4,7 @@ ghost use mathlib.Core.Path.{_≡_};
 ghost use mathlib.Core.List.{[], _∷_};
 ghost use Prim.Native.Nat.{_≤_, _<_, _-_};
 ghost use lib.ListN.{length};
-ghost use Rattle.text.specs.Text.{glyph as glyphOf, numeral, Wrote};
+ghost use Rattle.text.specs.Text.{shownByte, shown, glyph as glyphOf, numeral, Wrote};
 
 // One byte.
 pub fn put(out: &mut [u8], at: usize, b: u8) -> usize
@@ -27,6 +27,27 @@ pub fn put_bytes(out: &mut [u8], at: usize, bytes: &[u8]) -> usize
     let mut i: usize = 0;
     while i < bytes.len() {
         place = put(out, place, bytes[i]);
+        i += 1;
+    }
+    place
+}
+
+// A byte of a name as it is shown.
+fn shown_byte(b: u8) -> u8
+    ensures { λ r. ⌜ r ≡ shownByte b ⌝ }
+{
+    if (b < 32) | (b == 127) { b'?' } else { b }
+}
+
+// A name, or a word of a command line, as it is shown: it may hold any byte, and a line end in it must not begin a line.
+pub fn put_shown(out: &mut [u8], at: usize, name: &[u8]) -> usize
+    requires { ⌜ at ≤ length (now out) ⌝ }
+    ensures { λ r. ⌜ Wrote (now (out .entry)) at (now (out .exit)) r (shown (now (name .entry))) ⌝ }
+{
+    let mut place = at;
+    let mut i: usize = 0;
+    while i < name.len() {
+        place = put(out, place, shown_byte(name[i]));
         i += 1;
     }
     place

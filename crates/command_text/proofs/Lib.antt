@@ -1,2 +1,3 @@
--- For the reader, complaints by example.
+-- For the reader: what is said is one line, and complaints by example.
+pub mod OneLine
 pub mod Examples

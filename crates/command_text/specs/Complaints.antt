@@ -6,7 +6,7 @@ use mathlib.Core.Bool.{cond}
 use mathlib.Core.List.{List, [], _∷_, _++_}
 use lib.Dec.{eqb, ltb}
 use lib.ListN.{length, getD}
-use Rattle.text.specs.Text.{ascii, decimal}
+use Rattle.text.specs.Text.{ascii, shown, decimal}
 use Rattle.command_line.specs.declared.tools.Tool.{Tool}
 use Rattle.command_line.specs.declared.tools.Tool.the-variants.{Outline, TillImport, YearAudit}
 use Rattle.command_line.specs.declared.line.Line.{Line}
@@ -20,14 +20,14 @@ use Rattle.command_line.specs.Lines.{lineOf, statusOf}
 unfoldable pub misplacedText : ℕ → List ℕ → List ℕ
 misplacedText mode s =
     cond (eqb mode 3) (ascii " is no mode, which is even or mixed")
-    (cond (beginsAsOption s) (ascii " is no option (a file of that name is given as ./" ++ s ++ ascii ")")
+    (cond (beginsAsOption s) (ascii " is no option (a file of that name is given as ./" ++ shown s ++ ascii ")")
     (ascii " is one file too many"))
 
 unfoldable pub reasonText : ℕ → List ℕ → List ℕ
 reasonText mode s =
     cond (eqb (length s) 0) (ascii " is empty")
     (cond (ltb 4096 (length s)) (ascii " is longer than 4096 bytes")
-    (ascii ", " ++ s ++ ascii "," ++ misplacedText mode s))
+    (ascii ", " ++ shown s ++ ascii "," ++ misplacedText mode s))
 
 -- word k
 abbrev pub faultText : ℕ → ℕ → List ℕ → List ℕ

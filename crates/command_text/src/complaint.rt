@@ -4,6 +4,7 @@ use command_line::tools::Tool;
 use command_line::words::first_byte;
 use text::put_bytes;
 use text::put_numeral;
+use text::put_shown;
 ghost use Prim.Native.Nat.{_≤_};
 ghost use lib.ListN.{length};
 ghost use Rattle.text.specs.Text.{Wrote};
@@ -23,7 +24,7 @@ fn put_misplaced(out: &mut [u8], at: usize, mode: usize, word: &[u8]) -> usize
             at,
             b" is no option (a file of that name is given as ./",
         );
-        let named = put_bytes(out, told, word);
+        let named = put_shown(out, told, word);
         return put_bytes(out, named, b")");
     }
     put_bytes(out, at, b" is one file too many")
@@ -40,7 +41,7 @@ fn put_reason(out: &mut [u8], at: usize, mode: usize, word: &[u8]) -> usize
         return put_bytes(out, at, b" is longer than 4096 bytes");
     }
     let parted = put_bytes(out, at, b", ");
-    let named = put_bytes(out, parted, word);
+    let named = put_shown(out, parted, word);
     let ended = put_bytes(out, named, b",");
     put_misplaced(out, ended, mode, word)
 }

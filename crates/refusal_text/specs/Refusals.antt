@@ -4,7 +4,7 @@ use Prim.Native.Nat.{ℕ}
 use mathlib.Core.Bool.{Bool, _&&_, cond}
 use mathlib.Core.List.{List, [], _++_}
 use lib.Dec.{eqb, leb}
-use Rattle.text.specs.Text.{ascii}
+use Rattle.text.specs.Text.{ascii, shown}
 use Rattle.note_text.specs.Notes.{noted}
 
 -- 7 to 10: of the memory lent
@@ -39,9 +39,9 @@ reasonWords n index = cond (eqb n 1) (rowWords index) (refusalWords n)
 -- Which file it points at, and where in it: the row of the table, the line of the cell, or the list. 9 and 10 point at no file.
 unfoldable pub refusalPlace : List ℕ → List ℕ → ℕ → ℕ → ℕ → List ℕ
 refusalPlace table list n index line =
-    cond (eqb n 1) (table ++ noted (ascii " row ") index (ascii ": "))
-    (cond (leb 2 n && leb n 7) (list ++ noted (ascii " line ") line (ascii ": "))
-    (cond (eqb n 8) (list ++ ascii ": ") []))
+    cond (eqb n 1) (shown table ++ noted (ascii " row ") index (ascii ": "))
+    (cond (leb 2 n && leb n 7) (shown list ++ noted (ascii " line ") line (ascii ": "))
+    (cond (eqb n 8) (shown list ++ ascii ": ") []))
 
 unfoldable pub refusalText : List ℕ → List ℕ → ℕ → ℕ → ℕ → List ℕ
 refusalText table list n index line = refusalPlace table list n index line ++ noted (ascii "refused ") n (ascii ", ") ++ reasonWords n index ++ ascii "\n"

@@ -1,6 +1,7 @@
 // Refusals in words.
 use note_text::put_noted;
 use text::put_bytes;
+use text::put_shown;
 ghost use Prim.Native.Nat.{_≤_};
 ghost use lib.ListN.{length};
 ghost use Rattle.text.specs.Text.{Wrote};
@@ -108,15 +109,15 @@ fn put_place(
     ensures { λ r. ⌜ Wrote (now (out .entry)) at (now (out .exit)) r (refusalPlace (now (table .entry)) (now (list .entry)) number index line) ⌝ }
 {
     if number == 1 {
-        let named = put_bytes(out, at, table);
+        let named = put_shown(out, at, table);
         return put_noted(out, named, b" row ", index, b": ");
     }
     if (2 <= number) & (number <= 7) {
-        let named = put_bytes(out, at, list);
+        let named = put_shown(out, at, list);
         return put_noted(out, named, b" line ", line, b": ");
     }
     if number == 8 {
-        let named = put_bytes(out, at, list);
+        let named = put_shown(out, at, list);
         return put_bytes(out, named, b": ");
     }
     at

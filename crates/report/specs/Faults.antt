@@ -2,7 +2,7 @@
 -- Assumes nothing.
 use Prim.Native.Nat.{ℕ}
 use mathlib.Core.List.{List, [], _++_}
-use Rattle.text.specs.Text.{ascii}
+use Rattle.text.specs.Text.{ascii, shown}
 use Rattle.files.specs.declared.Reason.{Reason}
 use Rattle.files.specs.declared.Reason.the-variants as reason
 use Rattle.cell_text.specs.declared.Ending.{Ending}
@@ -19,21 +19,21 @@ unreadableWords reason.Forbidden = ascii ": this file may not be read\n"
 unreadableWords reason.Other = ascii ": this file cannot be read\n"
 
 abbrev pub unreadableText : List ℕ → Reason → List ℕ
-unreadableText name why = name ++ unreadableWords why
+unreadableText name why = shown name ++ unreadableWords why
 
 abbrev pub tooLongText : List ℕ → ℕ → List ℕ
-tooLongText name room = name ++ noted (ascii " byte ") room (ascii ": this file is too long\n")
+tooLongText name room = shown name ++ noted (ascii " byte ") room (ascii ": this file is too long\n")
 
 -- nothing where nothing is wrong
 unfoldable pub tableFaultText : List ℕ → ℕ → TableFile → List ℕ
 tableFaultText name room (file.Rows n) = []
-tableFaultText name room (file.CutOff place) = name ++ noted (ascii " byte ") place (ascii ": this row is cut off, a row has 20 bytes\n")
-tableFaultText name room file.TooMany = name ++ noted (ascii ": this table has more than ") room (ascii " rows\n")
+tableFaultText name room (file.CutOff place) = shown name ++ noted (ascii " byte ") place (ascii ": this row is cut off, a row has 20 bytes\n")
+tableFaultText name room file.TooMany = shown name ++ noted (ascii ": this table has more than ") room (ascii " rows\n")
 
 unfoldable pub listFaultText : List ℕ → ℕ → Ending → List ℕ
 listFaultText name room ending.Whole = []
 listFaultText name room (ending.Fault line place) =
-    name
+    shown name
     ++ noted (ascii " line ") line (ascii "")
     ++ noted (ascii ", byte ") place (ascii ": a line has one cell, 1 to 16 hexadecimal digits, with or without 0x\n")
-listFaultText name room (ending.TooMany line) = name ++ noted (ascii " line ") line (ascii "") ++ noted (ascii ": there are more than ") room (ascii " cells\n")
+listFaultText name room (ending.TooMany line) = shown name ++ noted (ascii " line ") line (ascii "") ++ noted (ascii ": there are more than ") room (ascii " cells\n")

@@ -4,6 +4,7 @@ use files::Reason;
 use note_text::put_noted;
 use table_bytes::TableFile;
 use text::put_bytes;
+use text::put_shown;
 ghost use Prim.Native.Nat.{_≤_};
 ghost use lib.ListN.{length};
 ghost use Rattle.text.specs.Text.{Wrote};
@@ -26,7 +27,7 @@ pub fn put_unreadable(out: &mut [u8], at: usize, name: &[u8], reason: Reason) ->
     requires { ⌜ at ≤ length (now out) ⌝ }
     ensures { λ r. ⌜ Wrote (now (out .entry)) at (now (out .exit)) r (unreadableText (now (name .entry)) reason) ⌝ }
 {
-    let named = put_bytes(out, at, name);
+    let named = put_shown(out, at, name);
     put_unreadable_words(out, named, reason)
 }
 
@@ -34,7 +35,7 @@ pub fn put_too_long(out: &mut [u8], at: usize, name: &[u8], room: usize) -> usiz
     requires { ⌜ at ≤ length (now out) ⌝ }
     ensures { λ r. ⌜ Wrote (now (out .entry)) at (now (out .exit)) r (tooLongText (now (name .entry)) room) ⌝ }
 {
-    let named = put_bytes(out, at, name);
+    let named = put_shown(out, at, name);
     put_noted(out, named, b" byte ", room, b": this file is too long\n")
 }
 
@@ -52,7 +53,7 @@ pub fn put_table_fault(
     match file {
         TableFile::Rows(_) => at,
         TableFile::CutOff(place) => {
-            let named = put_bytes(out, at, name);
+            let named = put_shown(out, at, name);
             put_noted(
                 out,
                 named,
@@ -62,7 +63,7 @@ pub fn put_table_fault(
             )
         }
         TableFile::TooMany => {
-            let named = put_bytes(out, at, name);
+            let named = put_shown(out, at, name);
             put_noted(out, named, b": this table has more than ", room, b" rows\n")
         }
     }
@@ -76,7 +77,7 @@ pub fn put_list_fault(out: &mut [u8], at: usize, name: &[u8], room: usize, endin
     match ending {
         Ending::Whole => at,
         Ending::Fault(line, place) => {
-            let named = put_bytes(out, at, name);
+            let named = put_shown(out, at, name);
             let lined = put_noted(out, named, b" line ", line, b"");
             put_noted(
                 out,
@@ -87,7 +88,7 @@ pub fn put_list_fault(out: &mut [u8], at: usize, name: &[u8], room: usize, endin
             )
         }
         Ending::TooMany(line) => {
-            let named = put_bytes(out, at, name);
+            let named = put_shown(out, at, name);
             let lined = put_noted(out, named, b" line ", line, b"");
             put_noted(out, lined, b": there are more than ", room, b" cells\n")
         }

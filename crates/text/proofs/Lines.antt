@@ -1,7 +1,8 @@
 -- Texts of one line, put together.
---     unbroken-more                       two texts that end no line, one behind the other
+--     unbroken-more, either-unbroken      two texts that end no line, one behind the other, and one of the two
 --     shown-unbroken, numeral-unbroken    a name as it is shown, and a number, end none
 --     line-behind                         one line with such a text before it
+--     name-.., number-..                  a name or a number before a text that ends no line, and before one line
 --     LineEnd, line-end                   what `oneLine` says: a line end at the end, and none before
 -- Assumes nothing.
 use Prim.Native.Nat.{ℕ, zero, suc, _+_, _-_, _/_, _%_, _<_}
@@ -14,12 +15,16 @@ use borrow.Author.Tests.{not-true, ne-eqb, eqb-true}
 use lib.Dec.{eqb, ltb, leb}
 use Rattle.scope.proofs.Tests.{either, and-left, and-right, and-both, clash}
 use Rattle.text.proofs.Names.{clear-byte}
-use Rattle.text.specs.Text.{isControl, shownByte, shown, glyph, numeralIn, numeral, unbroken, isEmpty, oneLine}
+use Rattle.text.specs.Text.{isControl, shownByte, shown, glyph, numeralIn, numeral, decimal, unbroken, isEmpty, oneLine}
 
 pub unbroken-more : (x y : List ℕ) → unbroken x ≡ true → unbroken y ≡ true → unbroken (x ++ y) ≡ true
 unfolding unbroken
 unbroken-more [] y p q = q
 unbroken-more (b ∷ x) y p q = and-both _ _ (and-left (not (eqb b 10)) (unbroken x) p) (unbroken-more x y (and-right (not (eqb b 10)) (unbroken x) p) q)
+
+pub either-unbroken : (b : Bool) (x y : List ℕ) → unbroken x ≡ true → unbroken y ≡ true → unbroken (cond b x y) ≡ true
+either-unbroken true x y p q = p
+either-unbroken false x y p q = q
 
 pub line-behind : (x y : List ℕ) → unbroken x ≡ true → oneLine y ≡ true → oneLine (x ++ y) ≡ true
 unfolding unbroken oneLine
@@ -43,21 +48,30 @@ glyph-no-end d e = ⊎-elim
     (λ t. let g = sym (ap (λ (b : Bool). cond b (48 + d) (87 + d)) t) ∙ e in omega arith)
     (either (ltb d 10))
 
-front-unbroken : (b : Bool) (x : List ℕ) → unbroken x ≡ true → unbroken (cond b [] x) ≡ true
-unfolding unbroken
-front-unbroken true x p = refl
-front-unbroken false x p = p
-
 numeral-in-unbroken : (fuel base least n : ℕ) → unbroken (numeralIn fuel base least n) ≡ true
 unfolding numeralIn unbroken
 numeral-in-unbroken zero base least n = byte-before (glyph (n % base)) [] (glyph-no-end (n % base)) refl
 numeral-in-unbroken (suc fuel) base least n = unbroken-more (cond (ltb n base && leb least 1) [] (numeralIn fuel base (least - 1) (n / base))) (glyph (n % base) ∷ [])
-    (front-unbroken (ltb n base && leb least 1) (numeralIn fuel base (least - 1) (n / base)) (numeral-in-unbroken fuel base (least - 1) (n / base)))
+    (either-unbroken (ltb n base && leb least 1) [] (numeralIn fuel base (least - 1) (n / base)) refl (numeral-in-unbroken fuel base (least - 1) (n / base)))
     (byte-before (glyph (n % base)) [] (glyph-no-end (n % base)) refl)
 
 pub numeral-unbroken : (base least n : ℕ) → unbroken (numeral base least n) ≡ true
 unfolding numeral
 numeral-unbroken base least n = numeral-in-unbroken (n + least) base least n
+
+-- ---- with a name or a number before it
+
+pub name-unbroken : (name y : List ℕ) → unbroken y ≡ true → unbroken (shown name ++ y) ≡ true
+name-unbroken name y p = unbroken-more (shown name) y (shown-unbroken name) p
+
+pub number-unbroken : (n : ℕ) (y : List ℕ) → unbroken y ≡ true → unbroken (decimal n ++ y) ≡ true
+number-unbroken n y p = unbroken-more (decimal n) y (numeral-unbroken 10 1 n) p
+
+pub name-line : (name y : List ℕ) → oneLine y ≡ true → oneLine (shown name ++ y) ≡ true
+name-line name y p = line-behind (shown name) y (shown-unbroken name) p
+
+pub number-line : (n : ℕ) (y : List ℕ) → oneLine y ≡ true → oneLine (decimal n ++ y) ≡ true
+number-line n y p = line-behind (decimal n) y (numeral-unbroken 10 1 n) p
 
 -- ---- what one line is
 

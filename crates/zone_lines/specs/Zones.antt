@@ -8,7 +8,7 @@ use Rattle.scope.specs.declared.ReadOut.{ReadOut}
 use Rattle.scope.specs.declared.ReadOut.the-variants.{Nothing, Closed, Outline, Refused}
 use Rattle.scope.specs.Lists.{at}
 use Rattle.scope.specs.Memory.{Output}
-use Rattle.text.specs.Text.{ascii}
+use Rattle.text.specs.Text.{ascii, shown}
 use Rattle.note_text.specs.Notes.{noted, areaText}
 use Rattle.outline_text.specs.Outlines.{standing}
 use Rattle.refusal_text.specs.Refusals.{refusalText}
@@ -26,8 +26,8 @@ countsText cells polygons rings edges first =
 
 -- The names of the two files; the lines of the cells; the table's edges; the answer and what was read out. A refusal is one line alone.
 unfoldable pub zoneText : List ℕ → List ℕ → List ℕ → List ℕ → ReadOut → Output → List ℕ
-zoneText table list lines edges Nothing o = list ++ ascii ": nothing, cells 0, polygons 0, rings 0, standing edges 0\n"
-zoneText table list lines edges Closed o = list ++ noted (ascii ": closed, cells ") (length lines) (ascii ", polygons 0, rings 0, standing edges 0\n")
+zoneText table list lines edges Nothing o = shown list ++ ascii ": nothing, cells 0, polygons 0, rings 0, standing edges 0\n"
+zoneText table list lines edges Closed o = shown list ++ noted (ascii ": closed, cells ") (length lines) (ascii ", polygons 0, rings 0, standing edges 0\n")
 zoneText table list lines edges (Outline polygons rings first) o =
-    list ++ countsText (length lines) polygons rings (standing (o .start) (o .size) rings) first ++ ringLines edges o rings
+    shown list ++ countsText (length lines) polygons rings (standing (o .start) (o .size) rings) first ++ ringLines edges o rings
 zoneText table list lines edges (Refused number index) o = refusalText table list number index (at lines index)

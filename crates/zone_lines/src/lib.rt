@@ -9,6 +9,7 @@ use refusal_text::put_refusal;
 use ring_lines::put_ring_lines;
 use scope::ReadOut;
 use text::put_bytes;
+use text::put_shown;
 ghost use mathlib.Core.Path.{_≡_};
 ghost use Prim.Native.Nat.{_≤_};
 ghost use lib.ListN.{length};
@@ -70,7 +71,7 @@ fn put_zone(
 {
     match answer {
         ReadOut::Nothing => {
-            let named = put_bytes(out, at, list);
+            let named = put_shown(out, at, list);
             put_bytes(
                 out,
                 named,
@@ -78,7 +79,7 @@ fn put_zone(
             )
         }
         ReadOut::Closed => {
-            let named = put_bytes(out, at, list);
+            let named = put_shown(out, at, list);
             put_noted(
                 out,
                 named,
@@ -88,7 +89,7 @@ fn put_zone(
             )
         }
         ReadOut::Outline(polygons, rings, first) => {
-            let named = put_bytes(out, at, list);
+            let named = put_shown(out, at, list);
             let stand = standing(start, size, rings);
             let counted = put_counts(out, named, lines.len(), polygons, rings, stand, first);
             put_ring_lines(

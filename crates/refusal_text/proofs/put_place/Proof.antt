@@ -7,8 +7,8 @@ use Rattle.refusal_text.specs.Refusals.{refusalPlace}
 use Rattle.refusal_text.proofs.put_place.Statement.{statement}
 use Rattle.refusal_text.proofs.put_place.Tie as tie
 
-put-bytes-requires : tie.Need-put-bytes-requires
-put-bytes-requires c κs = search needs
+put-shown-requires : tie.Need-put-shown-requires
+put-shown-requires c κs = search needs
 
 slice-aggregate-put-noted : tie.Need-slice-aggregate-put-noted
 slice-aggregate-put-noted c = search needs
@@ -24,10 +24,10 @@ same-length c = search needs
 
 returns : tie.Need-returns
 unfolding refusalPlace
-returns c = rw (eq-eqb _ _ (c .before .before .before .before .before .before .before .before .before .before .if1 .taken)) (wrote-more (c .before .before .before .before .before .before .before .before .put-bytes .ensures) (c .before .before .put-noted .ensures))
+returns c = rw (eq-eqb _ _ (c .before .before .before .before .before .before .before .before .before .before .if1 .taken)) (wrote-more (c .before .before .before .before .before .before .before .before .put-shown .ensures) (c .before .before .put-noted .ensures))
 
-put-bytes-requires-2 : tie.Need-put-bytes-requires-2
-put-bytes-requires-2 c κs = search needs
+put-shown-requires-2 : tie.Need-put-shown-requires-2
+put-shown-requires-2 c κs = search needs
 
 slice-aggregate-put-noted-3 : tie.Need-slice-aggregate-put-noted-3
 slice-aggregate-put-noted-3 c = search needs
@@ -43,23 +43,23 @@ same-length-2 c = search needs
 
 returns-2 : tie.Need-returns-2
 unfolding refusalPlace
-returns-2 c = rw (ne-eqb _ _ (c .before .before .before .before .before .before .before .before .before .before .before .if1 .left), c .before .before .before .before .before .before .before .before .before .before .if2 .taken) (wrote-more (c .before .before .before .before .before .before .before .before .put-bytes2 .ensures) (c .before .before .put-noted2 .ensures))
+returns-2 c = rw (ne-eqb _ _ (c .before .before .before .before .before .before .before .before .before .before .before .if1 .left), c .before .before .before .before .before .before .before .before .before .before .if2 .taken) (wrote-more (c .before .before .before .before .before .before .before .before .put-shown2 .ensures) (c .before .before .put-noted2 .ensures))
 
-put-bytes-requires-3 : tie.Need-put-bytes-requires-3
-put-bytes-requires-3 c κs = search needs
+put-shown-requires-3 : tie.Need-put-shown-requires-3
+put-shown-requires-3 c κs = search needs
 
 slice-aggregate-put-bytes : tie.Need-slice-aggregate-put-bytes
 slice-aggregate-put-bytes c = search needs
 
-put-bytes-requires-4 : tie.Need-put-bytes-requires-4
-put-bytes-requires-4 c κs = search needs
+put-bytes-requires : tie.Need-put-bytes-requires
+put-bytes-requires c κs = search needs
 
 same-length-3 : tie.Need-same-length-3
 same-length-3 c = search needs
 
 returns-3 : tie.Need-returns-3
 unfolding refusalPlace
-returns-3 c = rw (ne-eqb _ _ (c .before .before .before .before .before .before .before .before .before .before .before .if1 .left), c .before .before .before .before .before .before .before .before .before .before .if2 .left, eq-eqb _ _ (c .before .before .before .before .before .before .before .before .before .if3 .taken)) (wrote-more (c .before .before .before .before .before .before .before .put-bytes3 .ensures) (c .before .before .put-bytes4 .ensures))
+returns-3 c = rw (ne-eqb _ _ (c .before .before .before .before .before .before .before .before .before .before .before .if1 .left), c .before .before .before .before .before .before .before .before .before .before .if2 .left, eq-eqb _ _ (c .before .before .before .before .before .before .before .before .before .if3 .taken)) (wrote-more (c .before .before .before .before .before .before .before .put-shown3 .ensures) (c .before .before .put-bytes .ensures))
 
 returns-4 : tie.Need-returns-4
 unfolding refusalPlace
@@ -69,21 +69,21 @@ pub put-place-spec : {M : Type 1} → statement M
 put-place-spec =
     tie.close
     (tie.spec
-    put-bytes-requires
+    put-shown-requires
     slice-aggregate-put-noted
     slice-aggregate-put-noted-2
     put-noted-requires
     same-length
     returns
-    put-bytes-requires-2
+    put-shown-requires-2
     slice-aggregate-put-noted-3
     slice-aggregate-put-noted-4
     put-noted-requires-2
     same-length-2
     returns-2
-    put-bytes-requires-3
+    put-shown-requires-3
     slice-aggregate-put-bytes
-    put-bytes-requires-4
+    put-bytes-requires
     same-length-3
     returns-3
     returns-4)

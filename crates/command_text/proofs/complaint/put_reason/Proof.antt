@@ -39,14 +39,14 @@ slice-aggregate-put-bytes-3 c = search needs
 put-bytes-requires-3 : tie.Need-put-bytes-requires-3
 put-bytes-requires-3 c κs = search needs
 
-put-bytes-requires-4 : tie.Need-put-bytes-requires-4
-put-bytes-requires-4 c κs = search needs
+put-shown-requires : tie.Need-put-shown-requires
+put-shown-requires c κs = search needs
 
 slice-aggregate-put-bytes-4 : tie.Need-slice-aggregate-put-bytes-4
 slice-aggregate-put-bytes-4 c = search needs
 
-put-bytes-requires-5 : tie.Need-put-bytes-requires-5
-put-bytes-requires-5 c κs = search needs
+put-bytes-requires-4 : tie.Need-put-bytes-requires-4
+put-bytes-requires-4 c κs = search needs
 
 put-misplaced-requires : tie.Need-put-misplaced-requires
 put-misplaced-requires c κs = search needs
@@ -56,7 +56,7 @@ same-length-3 c = search needs
 
 returns-3 : tie.Need-returns-3
 unfolding reasonText
-returns-3 c = rw (ne-eqb _ _ (c .before .before .before .before .before .before .before .before .before .before .before .before .before .before .before .before .before .before .before .if1 .left), le-ltb _ _ (c .before .before .before .before .before .before .before .before .before .before .before .before .before .before .before .before .before .before .if2 .left)) (wrote-more (wrote-more (wrote-more (c .before .before .before .before .before .before .before .before .before .before .before .before .before .before .before .put-bytes3 .ensures) (c .before .before .before .before .before .before .before .before .before .before .before .put-bytes4 .ensures)) (c .before .before .before .before .before .before .put-bytes5 .ensures)) (c .before .before .put-misplaced .ensures))
+returns-3 c = rw (ne-eqb _ _ (c .before .before .before .before .before .before .before .before .before .before .before .before .before .before .before .before .before .before .before .if1 .left), le-ltb _ _ (c .before .before .before .before .before .before .before .before .before .before .before .before .before .before .before .before .before .before .if2 .left)) (wrote-more (wrote-more (wrote-more (c .before .before .before .before .before .before .before .before .before .before .before .before .before .before .before .put-bytes3 .ensures) (c .before .before .before .before .before .before .before .before .before .before .before .put-shown .ensures)) (c .before .before .before .before .before .before .put-bytes4 .ensures)) (c .before .before .put-misplaced .ensures))
 
 pub put-reason-spec : {M : Type 1} → statement M
 put-reason-spec =
@@ -72,9 +72,9 @@ put-reason-spec =
     returns-2
     slice-aggregate-put-bytes-3
     put-bytes-requires-3
-    put-bytes-requires-4
+    put-shown-requires
     slice-aggregate-put-bytes-4
-    put-bytes-requires-5
+    put-bytes-requires-4
     put-misplaced-requires
     same-length-3
     returns-3)

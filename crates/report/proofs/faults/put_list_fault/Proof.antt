@@ -12,8 +12,8 @@ enum-told c = search needs
 enum-known-ending : tie.Need-enum-known-ending
 enum-known-ending c = search needs
 
-put-bytes-requires : tie.Need-put-bytes-requires
-put-bytes-requires c κs = search needs
+put-shown-requires : tie.Need-put-shown-requires
+put-shown-requires c κs = search needs
 
 slice-aggregate-put-noted : tie.Need-slice-aggregate-put-noted
 slice-aggregate-put-noted c = search needs
@@ -36,8 +36,8 @@ put-noted-requires-2 c κs = search needs
 enum-known-ending-2 : tie.Need-enum-known-ending-2
 enum-known-ending-2 c = search needs
 
-put-bytes-requires-2 : tie.Need-put-bytes-requires-2
-put-bytes-requires-2 c κs = search needs
+put-shown-requires-2 : tie.Need-put-shown-requires-2
+put-shown-requires-2 c κs = search needs
 
 slice-aggregate-put-noted-5 : tie.Need-slice-aggregate-put-noted-5
 slice-aggregate-put-noted-5 c = search needs
@@ -66,14 +66,14 @@ same-length c = search needs
 
 returns-2 : tie.Need-returns-2
 unfolding listFaultText
-returns-2 c = rw (c .before .before .before .before .before .before .before .before .before .before .before .before .before .before .before .before .before .ending .given .1) (wrote-more (wrote-more (c .before .before .before .before .before .before .before .before .before .before .before .before .before .before .put-bytes .ensures) (c .before .before .before .before .before .before .before .before .put-noted .ensures)) (c .before .before .put-noted2 .ensures))
+returns-2 c = rw (c .before .before .before .before .before .before .before .before .before .before .before .before .before .before .before .before .before .ending .given .1) (wrote-more (wrote-more (c .before .before .before .before .before .before .before .before .before .before .before .before .before .before .put-shown .ensures) (c .before .before .before .before .before .before .before .before .put-noted .ensures)) (c .before .before .put-noted2 .ensures))
 
 same-length-2 : tie.Need-same-length-2
 same-length-2 c = search needs
 
 returns-3 : tie.Need-returns-3
 unfolding listFaultText
-returns-3 c = rw (c .before .before .before .before .before .before .before .before .before .before .before .before .before .before .before .before .before .ending2 .given .1) (wrote-more (wrote-more (c .before .before .before .before .before .before .before .before .before .before .before .before .before .before .put-bytes2 .ensures) (c .before .before .before .before .before .before .before .before .put-noted3 .ensures)) (c .before .before .put-noted4 .ensures))
+returns-3 c = rw (c .before .before .before .before .before .before .before .before .before .before .before .before .before .before .before .before .before .ending2 .given .1) (wrote-more (wrote-more (c .before .before .before .before .before .before .before .before .before .before .before .before .before .before .put-shown2 .ensures) (c .before .before .before .before .before .before .before .before .put-noted3 .ensures)) (c .before .before .put-noted4 .ensures))
 
 pub put-list-fault-spec : {M : Type 1} → statement M
 put-list-fault-spec =
@@ -81,7 +81,7 @@ put-list-fault-spec =
     (tie.spec
     enum-told
     enum-known-ending
-    put-bytes-requires
+    put-shown-requires
     slice-aggregate-put-noted
     slice-aggregate-put-noted-2
     put-noted-requires
@@ -89,7 +89,7 @@ put-list-fault-spec =
     slice-aggregate-put-noted-4
     put-noted-requires-2
     enum-known-ending-2
-    put-bytes-requires-2
+    put-shown-requires-2
     slice-aggregate-put-noted-5
     slice-aggregate-put-noted-6
     put-noted-requires-3

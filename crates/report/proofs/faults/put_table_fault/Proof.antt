@@ -12,8 +12,8 @@ enum-told c = search needs
 enum-known-file : tie.Need-enum-known-file
 enum-known-file c = search needs
 
-put-bytes-requires : tie.Need-put-bytes-requires
-put-bytes-requires c κs = search needs
+put-shown-requires : tie.Need-put-shown-requires
+put-shown-requires c κs = search needs
 
 slice-aggregate-put-noted : tie.Need-slice-aggregate-put-noted
 slice-aggregate-put-noted c = search needs
@@ -27,8 +27,8 @@ put-noted-requires c κs = search needs
 enum-told-2 : tie.Need-enum-told-2
 enum-told-2 c = search needs
 
-put-bytes-requires-2 : tie.Need-put-bytes-requires-2
-put-bytes-requires-2 c κs = search needs
+put-shown-requires-2 : tie.Need-put-shown-requires-2
+put-shown-requires-2 c κs = search needs
 
 slice-aggregate-put-noted-3 : tie.Need-slice-aggregate-put-noted-3
 slice-aggregate-put-noted-3 c = search needs
@@ -48,14 +48,14 @@ same-length c = search needs
 
 returns-2 : tie.Need-returns-2
 unfolding tableFaultText
-returns-2 c = rw (c .before .before .before .before .before .before .before .before .before .before .before .file .given .1) (wrote-more (c .before .before .before .before .before .before .before .before .put-bytes .ensures) (c .before .before .put-noted .ensures))
+returns-2 c = rw (c .before .before .before .before .before .before .before .before .before .before .before .file .given .1) (wrote-more (c .before .before .before .before .before .before .before .before .put-shown .ensures) (c .before .before .put-noted .ensures))
 
 same-length-2 : tie.Need-same-length-2
 same-length-2 c = search needs
 
 returns-3 : tie.Need-returns-3
 unfolding tableFaultText
-returns-3 c = rw (c .before .before .before .before .before .before .before .before .before .before .enum-told2 .given .1) (wrote-more (c .before .before .before .before .before .before .before .before .put-bytes2 .ensures) (c .before .before .put-noted2 .ensures))
+returns-3 c = rw (c .before .before .before .before .before .before .before .before .before .before .enum-told2 .given .1) (wrote-more (c .before .before .before .before .before .before .before .before .put-shown2 .ensures) (c .before .before .put-noted2 .ensures))
 
 pub put-table-fault-spec : {M : Type 1} → statement M
 put-table-fault-spec =
@@ -63,12 +63,12 @@ put-table-fault-spec =
     (tie.spec
     enum-told
     enum-known-file
-    put-bytes-requires
+    put-shown-requires
     slice-aggregate-put-noted
     slice-aggregate-put-noted-2
     put-noted-requires
     enum-told-2
-    put-bytes-requires-2
+    put-shown-requires-2
     slice-aggregate-put-noted-3
     slice-aggregate-put-noted-4
     put-noted-requires-2

@@ -1,0 +1,2 @@
+-- For the reader: a refusal is one line.
+pub mod OneLine

@@ -5,8 +5,9 @@ use libc::EISDIR;
 use libc::ENOENT;
 use libc::ENOTDIR;
 use libc::EPERM;
+ghost use mathlib.Core.Path.{_≡_};
 ghost use Rattle.io.specs.Counts.{Counts};
-ghost use Rattle.files.specs.Files.{countOf};
+ghost use Rattle.files.specs.Files.{reasonOf, countOf};
 
 // Why a file cannot be read: there is none of this name, it is a directory, it may not be read, or what else the system has against it.
 pub enum Reason {
@@ -24,7 +25,9 @@ pub enum FileRead {
 }
 
 // The reason behind the number that the system gives an error.
-fn reason_of(error: i32) -> Reason {
+fn reason_of(error: i32) -> Reason
+    ensures { λ r. ⌜ r ≡ reasonOf error ⌝ }
+{
     if (error == ENOENT) | (error == ENOTDIR) {
         return Reason::Missing;
     }

@@ -1,0 +1,2 @@
+-- A law that the proofs of this crate cite.
+pub mod Numbers

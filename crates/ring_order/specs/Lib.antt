@@ -1,6 +1,5 @@
 -- What the functions of this crate promise.
-pub mod Keys
-pub mod Fill
-pub mod Parts
+pub mod Listing
+pub mod Polygons
 pub mod Outers
 pub mod Ordered

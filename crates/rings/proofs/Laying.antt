@@ -12,9 +12,9 @@ use lib.Seq.{take-suc, take-suc-set, drop-set-lt, take-take}
 use Rattle.scope.specs.Lists.{at}
 use Rattle.scope.specs.Order.{nextRow}
 use Rattle.scope.proofs.Cycle.{orbit, orbit-last}
-use Rattle.ring_order.specs.Fill.{Filling}
-use Rattle.ring_order.proofs.Fills.{filling-none, filling-next}
-use Rattle.ring_order.proofs.Parts.{drop-more, part-whole}
+use Rattle.ring_sort.specs.Fill.{Filling}
+use Rattle.ring_sort.proofs.Fills.{filling-none, filling-next}
+use Rattle.ring_sort.proofs.Parts.{drop-more, part-whole}
 use Rattle.rings.specs.Links.{OnRing, ringIn, endToEnd}
 use Rattle.rings.specs.Laying.{LayReady, Laid, laidIn, LayAllReady, LaidAll}
 use Rattle.rings.proofs.Rounds.{turns, turns-period, turns-most, ring-rows, ring-length, Round, round-start, round-low, round-next}

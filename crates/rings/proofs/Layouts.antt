@@ -12,8 +12,8 @@ use Rattle.scope.specs.Area.{areaOf}
 use Rattle.scope.specs.Order.{nextRow}
 use Rattle.scope.proofs.Rules.{zero-not}
 use Rattle.scope.proofs.Cycle.{iter, iter-in, orbit-at}
-use Rattle.ring_order.specs.Fill.{Filling}
-use Rattle.ring_order.proofs.Fills.{filling-as}
+use Rattle.ring_sort.specs.Fill.{Filling}
+use Rattle.ring_sort.proofs.Fills.{filling-as}
 use Rattle.rings.specs.Links.{OnRing, ringIn, endToEnd}
 use Rattle.rings.specs.Laying.{laidIn, LayAllReady, LaidAll, termsOf, AreaReady, areaLaid, AreasReady, OutReady, LaidOut}
 use Rattle.rings.proofs.Rounds.{links-permute, turns, ring-rows, ring-length}

@@ -21,7 +21,9 @@ use Rattle.scope.proofs.Tests.{either}
 use Rattle.scope.proofs.Members.{cases}
 use Rattle.scope.proofs.Below.{below-passes, below-rises, below-same, keep-below, tabulate-at, tabulate-length, map-numbers, map-length}
 use Rattle.scope.proofs.Sorting.{All, all-places, all-sort, sort-map, sort-cong}
-use Rattle.ring_order.specs.Keys.{numbers, areaIn, withinLe, polygonLe, ringLe, outerOf, outersOf, orderOf, polygonsOf}
+use Rattle.ring_sort.specs.Keys.{numbers, ringLe}
+use Rattle.area_order.specs.Keys.{areaIn, withinLe, polygonLe}
+use Rattle.ring_order.specs.Polygons.{outerOf, outersOf, orderOf, polygonsOf}
 
 pub record Numbered (v : View) (rows : List ℕ) (area : List Float) (group : List ℕ) (n : ℕ) : Type 0 where
   pub count : n ≡ length (lowestRows v)

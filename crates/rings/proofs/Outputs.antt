@@ -17,11 +17,11 @@ use Rattle.scope.specs.Calls.{over, written}
 use Rattle.scope.proofs.Members.{cases}
 use Rattle.scope.proofs.Over.{over-back, over-length, front-over}
 use Rattle.scope.proofs.Below.{map-at, map-length, tabulate-length}
-use Rattle.ring_order.specs.Keys.{outersOf, outerOf}
-use Rattle.ring_order.specs.Fill.{Filling, picked}
+use Rattle.ring_order.specs.Polygons.{outersOf, outerOf}
+use Rattle.ring_sort.specs.Fill.{Filling, picked}
 use Rattle.ring_order.specs.Ordered.{Ordered}
-use Rattle.ring_order.proofs.Fills.{filling-over, filling-is}
-use Rattle.ring_order.proofs.Parts.{drop-more}
+use Rattle.ring_sort.proofs.Fills.{filling-over, filling-is}
+use Rattle.ring_sort.proofs.Parts.{drop-more}
 use Rattle.rings.specs.Links.{endToEnd, ringIn}
 use Rattle.rings.specs.Laying.{laidIn, termsOf, LaidOut}
 use Rattle.rings.specs.Views.{edgeCount, Surveyed}

@@ -15,10 +15,10 @@ use Rattle.scope.proofs.Rules.{not-zero}
 use Rattle.scope.proofs.Linked.{at-in}
 use Rattle.scope.proofs.Below.{below-passes, below-same}
 use Rattle.scope.proofs.Rings.{starts-stand}
-use Rattle.ring_order.specs.Fill.{Filling}
-use Rattle.ring_order.proofs.Fills.{filling-as, filling-over}
+use Rattle.ring_sort.specs.Fill.{Filling}
+use Rattle.ring_sort.proofs.Fills.{filling-as, filling-over}
 use Rattle.rings.specs.Links.{endToEnd, startsIn}
-use Rattle.rings.specs.Marking.{twosBelow, ListReady, Listed}
+use Rattle.ring_order.specs.Listing.{twosBelow, ListReady, Listed}
 use Rattle.rings.specs.Laying.{laidIn, OutReady, LaidOut}
 use Rattle.rings.specs.Grouping.{GroupsReady, Grouped, cellIn, markedGroup, RingGroupsReady}
 use Rattle.rings.specs.Views.{Readable, SurveyReady, Surveyed}

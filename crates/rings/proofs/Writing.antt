@@ -17,8 +17,8 @@ use Rattle.scope.proofs.Over.{over-front, over-at, over-length}
 use Rattle.scope.proofs.Below.{below-count, map-at, map-length, tabulate-length}
 use Rattle.scope.proofs.Sorting.{all-at, sort-length}
 use Rattle.scope.proofs.Sorted.{Perm, none, skip, swap, both, sort-perm}
-use Rattle.ring_order.specs.Keys.{orderOf, outersOf}
-use Rattle.ring_order.specs.Fill.{GatherReady}
+use Rattle.ring_order.specs.Polygons.{orderOf, outersOf}
+use Rattle.ring_sort.specs.Fill.{GatherReady}
 use Rattle.ring_order.specs.Ordered.{OrderReady, Ordered}
 use Rattle.rings.specs.Links.{endToEnd, startsIn}
 use Rattle.rings.specs.Laying.{laidIn, OutReady}

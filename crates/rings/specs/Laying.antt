@@ -9,8 +9,8 @@ use lib.ListN.{length, getD, take, drop}
 use lib.Seq.{slice}
 use Rattle.scope.specs.Lists.{at}
 use Rattle.scope.specs.Area.{areaOf}
-use Rattle.ring_order.specs.Fill.{Filling}
-use Rattle.ring_order.specs.Parts.{Part}
+use Rattle.ring_sort.specs.Fill.{Filling}
+use Rattle.ring_sort.specs.Parts.{Part}
 use Rattle.rings.specs.Links.{Links, OnRing, ringIn, endToEnd}
 
 pub record LayReady (rowSlot slotRow next out : List ℕ) (from r : ℕ) : Type 0 where

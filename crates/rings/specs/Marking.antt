@@ -5,8 +5,8 @@ use mathlib.Core.Path.{_≡_}
 use mathlib.Core.Bool.{Bool, cond, _&&_}
 use mathlib.Core.List.{List}
 use lib.Dec.{eqb}
-use lib.ListN.{length, take, drop}
-use Rattle.scope.specs.Lists.{at, member, below}
+use lib.ListN.{length}
+use Rattle.scope.specs.Lists.{at, member}
 use Rattle.scope.specs.Order.{standsAt}
 use Rattle.rings.specs.Links.{Links, OnRing, ringIn, startsIn, lowestBelow, endToEnd}
 
@@ -39,16 +39,3 @@ pub record Counted (rowSlot slotRow next mark mark′ : List ℕ) (rings edges :
   pub few : edges ≤ 4294967296
   pub twos : (x : ℕ) → x < length rowSlot → eqb (at mark′ x) 2 ≡ startsIn rowSlot slotRow next x
   pub len : length mark′ ≡ length mark
-
--- the rows that are marked 2, ascending
-abbrev pub twosBelow : List ℕ → ℕ → List ℕ
-twosBelow mark m = below (λ x. eqb (at mark x) 2) m
-
-pub record ListReady (mark out : List ℕ) : Type 0 where
-  pub few : length mark ≤ 65536
-  pub room : length (twosBelow mark (length mark)) ≤ length out
-
-pub record Listed (mark out out′ : List ℕ) : Type 0 where
-  pub wrote : take (length (twosBelow mark (length mark))) out′ ≡ twosBelow mark (length mark)
-  pub behind : drop (length (twosBelow mark (length mark))) out′ ≡ drop (length (twosBelow mark (length mark))) out
-  pub len : length out′ ≡ length out

@@ -9,7 +9,7 @@ use lib.Ieee.{Float, nan}
 use lib.ListN.{length, drop}
 use Rattle.scope.specs.Lists.{at, zeros}
 use Rattle.scope.specs.Order.{View, lowestRows, areaAt, groupAt, edgeRows}
-use Rattle.ring_order.specs.Fill.{Filling}
+use Rattle.ring_sort.specs.Fill.{Filling}
 use Rattle.rings.specs.Links.{Links, startsIn}
 use Rattle.rings.specs.Grouping.{Parents}
 

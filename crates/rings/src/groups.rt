@@ -3,7 +3,7 @@ ghost use mathlib.Core.Path.{_≡_};
 ghost use Prim.Native.Nat.{suc};
 ghost use Rattle.scope.specs.Lists.{at};
 ghost use Rattle.scope.specs.Order.{groupOf};
-ghost use Rattle.ring_order.specs.Fill.{Filling};
+ghost use Rattle.ring_sort.specs.Fill.{Filling};
 ghost use Rattle.rings.specs.Grouping.{PathReady, PaintReady, Painted, GroupsReady, Grouped, CellReady, markedGroup, RingGroupsReady};
 use slices::get32;
 use slices::put32;

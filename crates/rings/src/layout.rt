@@ -3,7 +3,7 @@ ghost use mathlib.Core.Path.{_≡_};
 ghost use lib.Ieee.{nan};
 ghost use lib.Seq.{slice};
 ghost use Rattle.scope.specs.Area.{areaOf};
-ghost use Rattle.ring_order.specs.Fill.{Filling};
+ghost use Rattle.ring_sort.specs.Fill.{Filling};
 ghost use Rattle.rings.specs.Laying.{LayReady, Laid, LayAllReady, LaidAll, termsOf, AreaReady, areaLaid, AreasReady, OutReady, LaidOut};
 use crate::walk::next_slot;
 use crate::walk::row_in;

@@ -15,12 +15,12 @@ ghost use Rattle.rings.specs.Build.{answerOf, WriteReady, Wrote, BuildRe
 use groups::mark_groups;
 use groups::ring_groups;
 use layout::lay_out;
-use ring_order::gather;
+use ring_order::list_rings;
 use ring_order::order_rings;
+use ring_sort::gather;
 use scope::ReadOut;
 use slices::clear32;
 use walk::count_rings;
-use walk::list_rings;
 
 // The row, the group and the area of each of the n rings by number, where the lowest rows are marked with 2; edges and size are scratch.
 // All marks are cleared.

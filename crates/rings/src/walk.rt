@@ -1,11 +1,11 @@
-// Going round the rings of a state: the next row, a ring marked, all rings counted and listed.
+// Going round the rings of a state: the next row, a ring marked, all rings counted.
 ghost use mathlib.Core.Path.{_≡_};
 ghost use lib.ListN.{length};
 ghost use mathlib.Core.Logic.{_≢_};
 ghost use Prim.Native.Nat.{_-_, _<_};
 ghost use Rattle.scope.specs.Lists.{at};
 ghost use Rattle.rings.specs.Links.{OnRing, NextSlot};
-ghost use Rattle.rings.specs.Marking.{MarkReady, Marked, unmarked, CountReady, Counted, ListReady, Listed};
+ghost use Rattle.rings.specs.Marking.{MarkReady, Marked, unmarked, CountReady, Counted};
 use slices::get32;
 use slices::put32;
 
@@ -98,21 +98,5 @@ pub(crate) fn count_rings(
     Counts {
         rings: rings,
         edges: edges,
-    }
-}
-
-// Writes the rows that are marked with 2, ascending.
-pub(crate) fn list_rings(mark: &[u32], out: &mut [u32])
-    requires { ⌜ ListReady (now mark) (now out) ⌝ }
-    ensures { λ _. ⌜ Listed (now (mark .entry)) (now (out .entry)) (now (out .exit)) ⌝ }
-{
-    let mut m: usize = 0;
-    let mut i: usize = 0;
-    while i < mark.len() {
-        if get32(mark, i) == 2 {
-            put32(out, m, i);
-            m += 1;
-        }
-        i += 1;
     }
 }

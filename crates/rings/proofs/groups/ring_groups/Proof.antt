@@ -4,7 +4,7 @@ use native.Mathlib.Omega.{arith}
 use Prim.Native.Nat.{_-_}
 use Rattle.scope.specs.Lists.{at}
 use Rattle.rings.specs.Grouping.{cellIn, markedGroup, RingGroupsReady}
-use Rattle.ring_order.proofs.Fills.{Filler, fill-begin, fill-next, fill-done}
+use Rattle.ring_sort.proofs.Fills.{Filler, fill-begin, fill-next, fill-done}
 use Rattle.rings.proofs.groups.ring_groups.Statement.{statement}
 use Rattle.rings.proofs.groups.ring_groups.Tie as tie
 

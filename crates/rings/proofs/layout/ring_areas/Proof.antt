@@ -5,7 +5,7 @@ use borrow.Author.Needs.{needs}
 use Prim.Native.Nat.{_-_}
 use lib.Ieee.{nan}
 use Rattle.rings.specs.Laying.{areaLaid, AreasReady}
-use Rattle.ring_order.proofs.Fills.{Filler, fill-begin, fill-next, fill-done}
+use Rattle.ring_sort.proofs.Fills.{Filler, fill-begin, fill-next, fill-done}
 use Rattle.rings.proofs.layout.ring_areas.Statement.{statement}
 use Rattle.rings.proofs.layout.ring_areas.Tie as tie
 

@@ -1,0 +1,2 @@
+-- Laws that others cite.
+pub mod Orders

@@ -19,7 +19,7 @@ use Rattle.scope.specs.CellLists.{differs, firstOfItsKind, notUnder}
 use Rattle.scope.proofs.Tests.{clash, same, le-or-lt}
 use Rattle.scope.proofs.Scan.{firstBad-lowest, firstBad-same, lowest-from, passes-at, passes-all, passes-not, passes-fails, Going}
 use Rattle.validate.specs.Sorting.{InOrder}
-use Rattle.validate.specs.Lookup.{differsBefore, Ordered}
+use Rattle.cell_lookup.specs.Lookup.{differsBefore, Ordered}
 use Rattle.validate.specs.Parts.{repeats, nests, noneOf, noneBefore, Against, Found, partOf, newAgainst, clearAgainst, PartIn}
 
 -- ---- a part, and the list

@@ -17,11 +17,11 @@ use Rattle.scope.specs.Lists.{at}
 use Rattle.scope.specs.Cells.{validCell, under}
 use Rattle.scope.proofs.Tests.{either, clash, le-or-lt}
 use Rattle.scope.proofs.Members.{cases}
-use Rattle.validate.specs.Sorting.{keyOf, place}
-use Rattle.validate.specs.Lookup.{Ordered, Raised, topOver}
-use Rattle.validate.proofs.Swaps.{place-is}
-use Rattle.validate.proofs.Blocks.{under-below, between, under-trans}
-use Rattle.validate.proofs.Lookups.{ordered-ascending}
+use Rattle.cell_lookup.specs.Order.{keyOf, place}
+use Rattle.cell_lookup.specs.Lookup.{Ordered, Raised, topOver}
+use Rattle.cell_lookup.proofs.Places.{place-is}
+use Rattle.cell_lookup.proofs.Blocks.{under-below, between, under-trans}
+use Rattle.cell_lookup.proofs.Lookups.{ordered-ascending}
 
 -- cell j is that of t, or lies under it
 abbrev Over : List ℕ → ℕ → ℕ → Type 0

@@ -1,5 +1,4 @@
 -- What the contracts of this crate cite beside the definitions of scope.
 pub mod Sorting
-pub mod Lookup
 pub mod Parts
 pub mod Chains

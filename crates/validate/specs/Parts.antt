@@ -11,7 +11,7 @@ use lib.Dec.{eqb, ltb}
 use lib.ListN.{length, take, drop}
 use Rattle.scope.specs.Lists.{at, firstBad, passes}
 use Rattle.scope.specs.Cells.{validCell, under}
-use Rattle.validate.specs.Lookup.{newTo, clearOf, Ordered, Raised}
+use Rattle.cell_lookup.specs.Lookup.{newTo, clearOf, Ordered, Raised}
 
 abbrev pub repeats : List ℕ → ℕ → ℕ → Bool
 repeats cs i j = ltb j i && eqb (at cs j) (at cs i)

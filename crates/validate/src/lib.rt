@@ -2,16 +2,18 @@
 // Nothing lent is written.
 ghost use mathlib.Core.Path.{_≡_};
 ghost use lib.ListN.{length};
-ghost use Rattle.scope.specs.Lists.{firstBad, passes};
-ghost use Rattle.scope.specs.CellLists.{validAt, differs, resolutionFits, resolutionFitsAt, notUnder, notOver, roomFor, listVerdict, cellVerdict};
+ghost use Rattle.scope.specs.Lists.{firstBad};
+ghost use Rattle.scope.specs.CellLists.{validAt, resolutionFits, resolutionFitsAt, roomFor, listVerdict, cellVerdict};
 
 mod chains;
-mod lookup;
 mod parts;
 mod sorting;
+mod tops;
 
+use cell_lookup::first_under;
+use cell_lookup::is_unheld;
+use cell_lookup::lies_under_none;
 use index::is_cell;
-use index::lies_under;
 use index::resolution;
 use parts::lowest_clashes;
 use scope::Verdict;
@@ -96,48 +98,6 @@ pub fn validate_heterogeneous(cells: &[u64], target: usize, capacity: usize) -> 
     ensures { λ r. ⌜ r ≡ listVerdict 1 target capacity (now (cells .entry)) ⌝ }
 {
     validate(cells, 1, target, capacity)
-}
-
-// None of the held cells is x.
-fn is_unheld(held: &[u64], x: u64) -> bool
-    ensures { λ b. ⌜ b ≡ passes (differs (now (held .entry)) x) (length (now (held .entry))) ⌝ }
-{
-    let mut other: usize = 0;
-    while other < held.len() {
-        if held[other] == x {
-            return false;
-        }
-        other += 1;
-    }
-    true
-}
-
-// x lies under none of the held cells.
-fn lies_under_none(held: &[u64], x: u64) -> bool
-    ensures { λ b. ⌜ b ≡ passes (notUnder (now (held .entry)) x) (length (now (held .entry))) ⌝ }
-{
-    let mut over: usize = 0;
-    while over < held.len() {
-        if lies_under(x, held[over]) {
-            return false;
-        }
-        over += 1;
-    }
-    true
-}
-
-// The lowest held cell that lies under x, or their number.
-fn first_under(held: &[u64], x: u64) -> usize
-    ensures { λ r. ⌜ r ≡ firstBad (notOver (now (held .entry)) x) (length (now (held .entry))) ⌝ }
-{
-    let mut under: usize = 0;
-    while under < held.len() {
-        if lies_under(held[under], x) {
-            return under;
-        }
-        under += 1;
-    }
-    under
 }
 
 // One cell against the held ones, in linear time.

@@ -1,15 +1,16 @@
 // A list of any length goes by parts of at most 16,384 cells. Each part's indices are sorted in a local array, and every
 // cell of the list is looked up among them: n log n for one part, and n log n again for each further one.
 ghost use mathlib.Core.Path.{_≡_};
-ghost use Prim.Native.Nat.{_+_, _≤_, _<_, min};
+ghost use Prim.Native.Nat.{_+_, _≤_, _<_};
 ghost use lib.ListN.{length};
 ghost use Rattle.scope.specs.Lists.{firstBad};
 ghost use Rattle.validate.specs.Parts.{newAgainst, clearAgainst, Against, Found, SecondIn, NestedIn, PartIn, AllValid};
 use crate::chains::all_differ;
-use crate::lookup::is_clear;
-use crate::lookup::is_new;
-use crate::lookup::raise;
 use crate::sorting::sort;
+use crate::tops::raise;
+use cell_lookup::is_clear;
+use cell_lookup::is_new;
+use least::least;
 
 // The most cells of a part.
 const PART: usize = 16384;
@@ -72,12 +73,6 @@ fn against_part(cells: &[u64], start: usize, end: usize, mixed: bool) -> Clashes
     }
 }
 
-fn lower(a: usize, b: usize) -> usize
-    ensures { λ r. ⌜ r ≡ min a b ⌝ }
-{
-    if a < b { a } else { b }
-}
-
 // Where the part that begins at `start` ends.
 fn part_end(start: usize, n: usize) -> usize
     requires { ⌜ start < n ⌝ }
@@ -98,8 +93,8 @@ fn clashes_in_parts(cells: &[u64], mixed: bool) -> Clashes
     while done < n {
         let end = part_end(done, n);
         let found = against_part(cells, done, end, mixed);
-        second = lower(second, found.second);
-        nested = lower(nested, found.nested);
+        second = least(second, found.second);
+        nested = least(nested, found.nested);
         done = end;
     }
     Clashes {

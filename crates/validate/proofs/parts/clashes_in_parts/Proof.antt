@@ -26,11 +26,11 @@ against-part-requires c κs =
     let end = c .part-end .ensures in
     record { valid = c .before .before .before .before .pre; order = omega (arith, end .0); within = end .1; few = end .2 }
 
-lower-requires : tie.Need-lower-requires Inv-loop μ-loop
-lower-requires c κs = tt
+least-requires : tie.Need-least-requires Inv-loop μ-loop
+least-requires c κs = tt
 
-lower-requires-2 : tie.Need-lower-requires-2 Inv-loop μ-loop
-lower-requires-2 c κs = tt
+least-requires-2 : tie.Need-least-requires-2 Inv-loop μ-loop
+least-requires-2 c κs = tt
 
 loop-less : tie.Need-loop-less Inv-loop μ-loop
 loop-less c = omega (arith, c .before .before .before .part-end .ensures)
@@ -38,7 +38,7 @@ loop-less c = omega (arith, c .before .before .before .part-end .ensures)
 loop-again : tie.Need-loop-again Inv-loop μ-loop
 loop-again c =
     let end = c .before .before .before .part-end .ensures in
-    (end .1, found-more (omega (arith, end .0)) (c .before .before .before .before .before .loop .inv .1) (c .before .before .against-part .ensures) (c .before .lower .ensures) (c .lower2 .ensures))
+    (end .1, found-more (omega (arith, end .0)) (c .before .before .before .before .before .loop .inv .1) (c .before .before .against-part .ensures) (c .before .least .ensures) (c .least2 .ensures))
 
 returns : tie.Need-returns Inv-loop μ-loop
 returns c =
@@ -56,8 +56,8 @@ clashes-in-parts-spec =
     loop-holds
     part-end-requires
     against-part-requires
-    lower-requires
-    lower-requires-2
+    least-requires
+    least-requires-2
     loop-less
     loop-again
     returns)

@@ -1,0 +1,3 @@
+-- What the functions of this crate ask and promise.
+pub mod Order
+pub mod Lookup

@@ -1,5 +1,4 @@
 -- Laws that the proofs of this crate cite.
-pub mod Floats
 pub mod Gathered
 pub mod Halves
 pub mod Blocks

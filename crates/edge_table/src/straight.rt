@@ -1,12 +1,12 @@
 // The rules of a table in straight passes, each over one column. Most tables pass, and a pass that no row ends early takes several
 // rows at a time; which row is the lowest bad one is asked only where a pass fails.
-use crate::is_finite;
-use crate::row_paired;
 use index::is_pentagon;
 use index::resolution;
 use row_search::rows_below;
 use slices::at32;
 use slices::get32;
+use table_rules::is_finite;
+use table_rules::row_paired;
 ghost use mathlib.Core.Path.{_≡_};
 ghost use mathlib.Core.Bool.{true, false};
 ghost use Prim.Native.Nat.{_^_, _<_, _≤_};

@@ -1,4 +1,4 @@
--- `edge_table::bad_row` meets its contract. A scan.
+-- `table_rules::bad_row` meets its contract. A scan.
 -- Assumes nothing.
 use native.Mathlib.Omega.{arith}
 use borrow.Author.Needs.{needs}
@@ -7,8 +7,8 @@ use lib.ListN.{length}
 use Rattle.scope.specs.Table.{table, rowGood}
 use Rattle.scope.proofs.Tests.{fails, holds}
 use Rattle.scope.proofs.Scan.{Going, going-start, going-more, going-stop, going-done}
-use Rattle.edge_table.proofs.bad_row.Statement.{statement}
-use Rattle.edge_table.proofs.bad_row.Tie as tie
+use Rattle.table_rules.proofs.bad_row.Statement.{statement}
+use Rattle.table_rules.proofs.bad_row.Tie as tie
 
 abbrev Inv-loop : tie.InvT-loop
 Inv-loop edges reverse area row₀ row = Going (rowGood (table edges reverse area)) (length edges) row

@@ -1,9 +1,9 @@
--- `edge_table::row_paired` meets its contract. The three tests are those of `paired`.
+-- `table_rules::row_paired` meets its contract. The three tests are those of `paired`.
 -- Assumes nothing.
 use borrow.Author.Needs.{needs}
 use Rattle.scope.specs.Table.{paired}
-use Rattle.edge_table.proofs.row_paired.Statement.{statement}
-use Rattle.edge_table.proofs.row_paired.Tie as tie
+use Rattle.table_rules.proofs.row_paired.Statement.{statement}
+use Rattle.table_rules.proofs.row_paired.Tie as tie
 
 at32-requires : tie.Need-at32-requires
 at32-requires c κs = search needs

@@ -1,4 +1,4 @@
--- `edge_table::one_resolution` meets its contract. A scan.
+-- `table_rules::one_resolution` meets its contract. A scan.
 -- Assumes nothing.
 use native.Mathlib.Omega.{arith}
 use borrow.Author.Needs.{needs}
@@ -8,8 +8,8 @@ use lib.ListN.{length}
 use borrow.Author.Tests.{eq-eqb, ne-eqb}
 use Rattle.scope.specs.Table.{hasTarget}
 use Rattle.scope.proofs.Scan.{Going, going-start, going-more, going-false, going-true}
-use Rattle.edge_table.proofs.one_resolution.Statement.{statement}
-use Rattle.edge_table.proofs.one_resolution.Tie as tie
+use Rattle.table_rules.proofs.one_resolution.Statement.{statement}
+use Rattle.table_rules.proofs.one_resolution.Tie as tie
 
 abbrev Inv-loop : tie.InvT-loop
 Inv-loop edges target i₀ i = Going (hasTarget edges) (length edges) i

@@ -1,9 +1,9 @@
--- `edge_table::row_good` meets its contract. The four tests are those of `rowGood`.
+-- `table_rules::row_good` meets its contract. The four tests are those of `rowGood`.
 -- Assumes nothing.
 use borrow.Author.Needs.{needs}
 use Rattle.scope.specs.Table.{rowGood}
-use Rattle.edge_table.proofs.row_good.Statement.{statement}
-use Rattle.edge_table.proofs.row_good.Tie as tie
+use Rattle.table_rules.proofs.row_good.Statement.{statement}
+use Rattle.table_rules.proofs.row_good.Tie as tie
 
 mul-is-edge : tie.Need-mul-is-edge
 mul-is-edge c = search needs

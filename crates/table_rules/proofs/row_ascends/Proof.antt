@@ -1,10 +1,10 @@
--- `edge_table::row_ascends` meets its contract. Row 0 has no row before it.
+-- `table_rules::row_ascends` meets its contract. Row 0 has no row before it.
 -- Assumes nothing.
 use borrow.Author.Needs.{needs}
 use borrow.Author.Tests.{eq-eqb, ne-eqb}
 use Rattle.scope.specs.Table.{ascends}
-use Rattle.edge_table.proofs.row_ascends.Statement.{statement}
-use Rattle.edge_table.proofs.row_ascends.Tie as tie
+use Rattle.table_rules.proofs.row_ascends.Statement.{statement}
+use Rattle.table_rules.proofs.row_ascends.Tie as tie
 
 returns : tie.Need-returns
 unfolding ascends

@@ -17,7 +17,7 @@ use Rattle.cell_text.specs.declared.Ending.{Ending}
 use Rattle.cell_text.specs.declared.Ending.the-variants as ending
 use Rattle.cell_text.specs.declared.Listed.{Listed}
 use Rattle.cell_text.specs.Lines.{lines, Reading, ended, reading, fitted, cellsIn, markOf, cellsOf, Stored}
-use Rattle.cell_text.proofs.Pieces.{tail}
+use Rattle.cell_words.proofs.Pieces.{tail}
 use Rattle.cell_text.proofs.LinesLeft.{left, left-none}
 
 -- what was found before, and the rest

@@ -9,7 +9,7 @@ use Rattle.scope.specs.Lists.{from, firstBad}
 use Rattle.text.specs.Text.{ascii}
 use Rattle.cell_text.specs.declared.Ending.{Ending}
 use Rattle.cell_text.specs.declared.Ending.the-variants.{Whole, Fault, TooMany}
-use Rattle.cell_text.specs.Words.{leading, blanksAfter, prefixOf, numberIn, digitsOf, wordOf, trimmedOf, bodyOf, lineOf}
+use Rattle.cell_words.specs.Words.{leading, blanksAfter, prefixOf, numberIn, digitsOf, wordOf, trimmedOf, bodyOf, lineOf}
 use Rattle.cell_text.specs.Lines.{Reading, lines, reading, fitted, cellsIn, markOf, cellsOf}
 
 text : List ℕ

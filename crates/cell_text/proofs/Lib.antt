@@ -1,6 +1,4 @@
 -- Laws that the proofs of this crate cite.
-pub mod Numbers
-pub mod Pieces
 pub mod LinesLeft
 pub mod Come
 pub mod LineTaken

@@ -13,7 +13,7 @@ use native.Mathlib.Omega.{arith}
 use borrow.Author.Tests.{lt-ltb, le-ltb}
 use lib.Dec.{ltb}
 use lib.ListN.{set}
-use Rattle.cell_text.specs.declared.Line.the-variants as line
+use Rattle.cell_words.specs.declared.Line.the-variants as line
 use Rattle.cell_text.specs.declared.Ending.the-variants as ending
 use Rattle.cell_text.specs.declared.Listed.{Listed}
 use Rattle.cell_text.specs.Lines.{listedBy, storedBy, Took}

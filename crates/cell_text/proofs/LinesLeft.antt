@@ -15,12 +15,12 @@ use lib.ListN.{length, take, drop, length-drop}
 use lib.Seq.{take-all, drop-drop}
 use Rattle.scope.specs.Lists.{from, firstBad, at}
 use Rattle.scope.proofs.Tests.{either, le-or-lt}
-use Rattle.cell_text.specs.declared.Line.{Line}
-use Rattle.cell_text.specs.declared.words.Kind.{Kind}
-use Rattle.cell_text.specs.declared.words.Kind.the-variants.{OtherThan}
-use Rattle.cell_text.specs.Words.{isOf, leading, lineOf}
+use Rattle.cell_words.specs.declared.Line.{Line}
+use Rattle.cell_words.specs.declared.Kind.{Kind}
+use Rattle.cell_words.specs.declared.Kind.the-variants.{OtherThan}
+use Rattle.cell_words.specs.Words.{isOf, leading, lineOf}
 use Rattle.cell_text.specs.Lines.{onto, lines, NextLine}
-use Rattle.cell_text.proofs.Pieces.{tail}
+use Rattle.cell_words.proofs.Pieces.{tail}
 
 from-later : (ok : ℕ → Bool) (n i : ℕ) → from ok n (suc i) ≡ suc (from (λ j. ok (suc j)) n i)
 unfolding from

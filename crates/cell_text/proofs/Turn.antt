@@ -16,8 +16,8 @@ use lib.ListN.{length, take, drop, set, length-append}
 use lib.Seq.{sets, take-at, getD-at}
 use Rattle.scope.specs.Lists.{at}
 use Rattle.scope.proofs.Tests.{either, clash}
-use Rattle.cell_text.specs.declared.Line.{Line}
-use Rattle.cell_text.specs.declared.Line.the-variants as line
+use Rattle.cell_words.specs.declared.Line.{Line}
+use Rattle.cell_words.specs.declared.Line.the-variants as line
 use Rattle.cell_text.specs.declared.Ending.the-variants as ending
 use Rattle.cell_text.specs.declared.Next.{Next}
 use Rattle.cell_text.specs.declared.Listed.{Listed}

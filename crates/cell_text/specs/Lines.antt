@@ -8,14 +8,14 @@ use lib.Dec.{eqb, leb, ltb}
 use lib.ListN.{length, take, drop, set}
 use lib.Seq.{sets}
 use Rattle.scope.specs.Lists.{at}
-use Rattle.cell_text.specs.declared.Line.{Line}
-use Rattle.cell_text.specs.declared.Line.the-variants as line
+use Rattle.cell_words.specs.declared.Line.{Line}
+use Rattle.cell_words.specs.declared.Line.the-variants as line
 use Rattle.cell_text.specs.declared.Listed.{Listed}
 use Rattle.cell_text.specs.declared.Ending.{Ending}
 use Rattle.cell_text.specs.declared.Ending.the-variants as ending
 use Rattle.cell_text.specs.declared.Next.{Next}
-use Rattle.cell_text.specs.declared.words.Kind.the-variants.{OtherThan}
-use Rattle.cell_text.specs.Words.{leading, lineOf}
+use Rattle.cell_words.specs.declared.Kind.the-variants.{OtherThan}
+use Rattle.cell_words.specs.Words.{leading, lineOf}
 
 -- ---- lines
 

@@ -1,23 +1,16 @@
 // A cell list as text: one cell a line in hexadecimal, with or without 0x; blank lines, # comments and a byte order mark in front are passed over.
 // The cells go into a lent slice, with the line of each beside it; a line that is none of these is named with its place.
-mod words;
-
-use words::Kind;
-use words::byte_at;
-use words::leading;
-use words::read_line;
+use cell_words::Kind;
+use cell_words::Line;
+use cell_words::byte_at;
+use cell_words::leading;
+use cell_words::read_line;
+use least::least;
 ghost use mathlib.Core.Path.{_≡_};
 ghost use Prim.Native.Nat.{_≤_, min};
 ghost use lib.ListN.{length};
 ghost use lib.Seq.{sets};
 ghost use Rattle.cell_text.specs.Lines.{cellsIn, markOf, cellsOf, isWhole, Stored, NextLine, Took};
-
-// What a line holds: nothing to take, a cell, or a fault at a place.
-pub enum Line {
-    Passed,
-    Cell(u64),
-    Fault(usize),
-}
 
 // How a reading ends: with the text; at a fault, by line and place; or at a line whose cell finds no room.
 pub enum Ending {
@@ -30,12 +23,6 @@ pub enum Ending {
 pub struct Listed {
     pub count: usize,
     pub ending: Ending,
-}
-
-fn least(a: usize, b: usize) -> usize
-    ensures { λ r. ⌜ r ≡ min a b ⌝ }
-{
-    if a < b { a } else { b }
 }
 
 // The line that begins at place `at`: what it holds, and where it ends.

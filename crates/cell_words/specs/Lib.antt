@@ -1,0 +1,2 @@
+-- What a line of a cell list is, as text.
+pub mod Words

@@ -17,7 +17,7 @@ use Rattle.scope.proofs.Tests.{either, same, and-left, and-right, and-both}
 use Rattle.scope.proofs.Scan.{passes-at, passes-all}
 use Rattle.scope.proofs.Linked.{at-in, Used, used-true, true-used}
 use Rattle.scope.proofs.Cycle.{Permutes, iter, iter-in, iter-last, period}
-use Rattle.rules.specs.Slices.{aheadKept, slotAhead}
+use Rattle.slot_rules.specs.Slices.{aheadKept, slotAhead}
 
 link-used : (m : Memory) (s : ℕ) → Used m s → linkUsed m s ≡ true
 link-used m s u = and-both _ _ (lt-ltb s (slots m) (at-in (m .slotRow) s u)) (used-true m s u)

@@ -1,7 +1,6 @@
 -- Laws that the proofs of this crate cite.
 pub mod Totals
-pub mod Sweeps
 pub mod Counted
 pub mod Ahead
-pub mod Ranges
+pub mod Lent
 pub mod Whole

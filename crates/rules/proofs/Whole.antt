@@ -16,7 +16,8 @@ use Rattle.scope.specs.CellLists.{listVerdict}
 use Rattle.scope.specs.Memory.{memory}
 use Rattle.scope.specs.Rules.{rowKept, linksKept, slotKept, clearedAt, parentKept, ranksKept, rulesKept}
 use Rattle.scope.proofs.Tests.{and-right, and-false}
-use Rattle.rules.specs.Slices.{rows, pool, forest, setCount, slotAhead}
+use Rattle.slot_rules.specs.Slices.{pool, slotAhead}
+use Rattle.rules.specs.Slices.{rows, forest, setCount}
 use Rattle.rules.proofs.Counted.{back-from, rows-counted}
 use Rattle.rules.proofs.Ahead.{ahead-all}
 

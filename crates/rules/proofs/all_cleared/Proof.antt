@@ -5,7 +5,7 @@ use borrow.Author.Needs.{needs}
 use Prim.Native.Nat.{_-_}
 use lib.ListN.{length}
 use Rattle.scope.specs.Rules.{clearedAt}
-use Rattle.rules.proofs.Sweeps.{Sweeping, sweeping-start, sweeping-more, sweeping-done}
+use Rattle.slot_rules.proofs.Sweeps.{Sweeping, sweeping-start, sweeping-more, sweeping-done}
 use Rattle.rules.proofs.all_cleared.Statement.{statement}
 use Rattle.rules.proofs.all_cleared.Tie as tie
 

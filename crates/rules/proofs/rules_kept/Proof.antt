@@ -5,7 +5,7 @@ use mathlib.Core.Path.{_∙_, ap}
 use Rattle.scope.specs.Cells.{resolutionOf}
 use native.Mathlib.Omega.{arith}
 use lib.ListN.{length-take}
-use Rattle.rules.proofs.Ranges.{lent-on}
+use Rattle.rules.proofs.Lent.{lent-on}
 use Rattle.rules.proofs.Whole.{held-fits, head-fails, counted}
 use Rattle.rules.proofs.rules_kept.Statement.{statement}
 use Rattle.rules.proofs.rules_kept.Tie as tie

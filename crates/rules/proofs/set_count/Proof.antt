@@ -5,7 +5,7 @@ use borrow.Author.Needs.{needs}
 use Prim.Native.Nat.{_-_}
 use lib.ListN.{length}
 use Rattle.rules.specs.Slices.{isSet}
-use Rattle.rules.proofs.Sweeps.{Counting, counting-start, counting-more, counting-fits, counting-done}
+use Rattle.slot_rules.proofs.Sweeps.{Counting, counting-start, counting-more, counting-fits, counting-done}
 use Rattle.rules.proofs.set_count.Statement.{statement}
 use Rattle.rules.proofs.set_count.Tie as tie
 

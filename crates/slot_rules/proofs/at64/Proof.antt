@@ -1,10 +1,10 @@
--- `rules::at64` meets its contract. Past the end `at` is 0.
+-- `slot_rules::at64` meets its contract. Past the end `at` is 0.
 -- Assumes nothing.
 use borrow.Author.Needs.{needs}
 use mathlib.Core.Path.{sym}
 use lib.ListN.{List·getD-eq-default}
-use Rattle.rules.proofs.at64.Statement.{statement}
-use Rattle.rules.proofs.at64.Tie as tie
+use Rattle.slot_rules.proofs.at64.Statement.{statement}
+use Rattle.slot_rules.proofs.at64.Tie as tie
 
 mul-result : tie.Need-mul-result
 mul-result c = search needs

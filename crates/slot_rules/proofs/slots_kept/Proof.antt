@@ -1,14 +1,14 @@
--- `rules::slots_kept` meets its contract.
+-- `slot_rules::slots_kept` meets its contract.
 -- Assumes nothing.
 use native.Mathlib.Omega.{arith}
 use mathlib.Core.List.{[]}
 use Prim.Native.Nat.{_-_}
 use lib.ListN.{length}
 use Rattle.scope.specs.Table.{table}
-use Rattle.rules.specs.Slices.{pool, slotAhead}
-use Rattle.rules.proofs.Sweeps.{Sweeping, sweeping-start, sweeping-more, sweeping-done}
-use Rattle.rules.proofs.slots_kept.Statement.{statement}
-use Rattle.rules.proofs.slots_kept.Tie as tie
+use Rattle.slot_rules.specs.Slices.{pool, slotAhead}
+use Rattle.slot_rules.proofs.Sweeps.{Sweeping, sweeping-start, sweeping-more, sweeping-done}
+use Rattle.slot_rules.proofs.slots_kept.Statement.{statement}
+use Rattle.slot_rules.proofs.slots_kept.Tie as tie
 
 abbrev Inv-loop : tie.InvT-loop
 Inv-loop edges reverse cells slot-row slot-cell prev next row-slot held kept₀ slot₀ kept slot = Sweeping (slotAhead (table edges reverse []) (pool held cells slot-row slot-cell prev next row-slot)) (length slot-row) slot kept

@@ -1,10 +1,10 @@
--- `rules::owned_by` meets its contract.
+-- `slot_rules::owned_by` meets its contract.
 -- Assumes nothing.
 use borrow.Author.Needs.{needs}
 use borrow.Author.Tests.{eq-eqb, ne-eqb}
 use Rattle.scope.specs.Rules.{ownedBy}
-use Rattle.rules.proofs.owned_by.Statement.{statement}
-use Rattle.rules.proofs.owned_by.Tie as tie
+use Rattle.slot_rules.proofs.owned_by.Statement.{statement}
+use Rattle.slot_rules.proofs.owned_by.Tie as tie
 
 owner-requires : tie.Need-owner-requires
 owner-requires c κs = search needs

@@ -1,13 +1,13 @@
--- `rules::slot_kept` meets its contract.
+-- `slot_rules::slot_kept` meets its contract.
 -- Assumes nothing.
 use native.Mathlib.Omega.{arith}
 use borrow.Author.Needs.{needs}
 use mathlib.Core.Path.{_≡_, sym, _∙_}
 use borrow.Author.Tests.{eq-eqb, ne-eqb}
 use Rattle.scope.specs.Lists.{at}
-use Rattle.rules.specs.Slices.{slotAhead}
-use Rattle.rules.proofs.slot_kept.Statement.{statement}
-use Rattle.rules.proofs.slot_kept.Tie as tie
+use Rattle.slot_rules.specs.Slices.{slotAhead}
+use Rattle.slot_rules.proofs.slot_kept.Statement.{statement}
+use Rattle.slot_rules.proofs.slot_kept.Tie as tie
 
 at32-requires : tie.Need-at32-requires
 at32-requires c κs = search needs

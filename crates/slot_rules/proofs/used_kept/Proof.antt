@@ -1,14 +1,13 @@
--- `rules::used_kept` meets its contract.
+-- `slot_rules::used_kept` meets its contract.
 -- Assumes nothing.
 use borrow.Author.Needs.{needs}
 use mathlib.Core.List.{[]}
 use native.Mathlib.Omega.{arith}
 use Rattle.scope.specs.Table.{table}
-use Rattle.rules.specs.Slices.{pool}
-use Rattle.rules.proofs.Totals.{not-not}
-use Rattle.rules.proofs.Ranges.{out-of-range}
-use Rattle.rules.proofs.used_kept.Statement.{statement}
-use Rattle.rules.proofs.used_kept.Tie as tie
+use Rattle.slot_rules.specs.Slices.{pool}
+use Rattle.slot_rules.proofs.Ranges.{out-of-range, not-not}
+use Rattle.slot_rules.proofs.used_kept.Statement.{statement}
+use Rattle.slot_rules.proofs.used_kept.Tie as tie
 
 at32-requires : tie.Need-at32-requires
 at32-requires c κs = search needs

@@ -1,8 +1,8 @@
--- `rules::free_kept` meets its contract.
+-- `slot_rules::free_kept` meets its contract.
 -- Assumes nothing.
 use borrow.Author.Needs.{needs}
-use Rattle.rules.proofs.free_kept.Statement.{statement}
-use Rattle.rules.proofs.free_kept.Tie as tie
+use Rattle.slot_rules.proofs.free_kept.Statement.{statement}
+use Rattle.slot_rules.proofs.free_kept.Tie as tie
 
 at32-requires : tie.Need-at32-requires
 at32-requires c κs = search needs

@@ -1,8 +1,8 @@
--- `rules::link_used` meets its contract.
+-- `slot_rules::link_used` meets its contract.
 -- Assumes nothing.
 use borrow.Author.Needs.{needs}
-use Rattle.rules.proofs.link_used.Statement.{statement}
-use Rattle.rules.proofs.link_used.Tie as tie
+use Rattle.slot_rules.proofs.link_used.Statement.{statement}
+use Rattle.slot_rules.proofs.link_used.Tie as tie
 
 at32-requires : tie.Need-at32-requires
 at32-requires c κs = search needs

@@ -20,10 +20,11 @@ use Rattle.scope.proofs.Placed.{slots-fresh, slots-free, slots-in}
 use Rattle.scope.proofs.Sound.{sound-table, offered-outline, offered-room}
 use Rattle.scope.proofs.Taking.{placedFor, offered-many, sound-forest}
 use Rattle.free_slots.specs.Search.{Flags}
-use Rattle.arcs.specs.Place.{freeIn, slotsAt}
-use Rattle.pairs.specs.Cancel.{pool}
+use Rattle.placing.specs.Place.{freeIn, slotsAt}
+use Rattle.pair_links.specs.Links.{pool}
 use Rattle.arcs.specs.CancelRows.{reverses, CancelAsks, RowsCancelled}
-use Rattle.arcs.specs.Taking.{HoldAsks, CellHeld, OutlineAsks, OutlinePlaced, AddAsks, Added}
+use Rattle.placing.specs.Outline.{HoldAsks, CellHeld, OutlineAsks, OutlinePlaced}
+use Rattle.arcs.specs.Taking.{AddAsks, Added}
 use Rattle.arcs.proofs.Counting.{usedTotal, free-count, used-put}
 use Rattle.arcs.proofs.Offering.{slots-placed, placed-asks}
 use Rattle.arcs.proofs.PoolAlone.{asks-same, cancelled-same}

@@ -19,7 +19,7 @@ use Rattle.scope.proofs.Tests.{le-or-lt}
 use Rattle.scope.proofs.Members.{cases}
 use Rattle.scope.proofs.Halving.{Forest}
 use Rattle.scope.proofs.Linked.{Used}
-use Rattle.arcs.specs.Place.{slotsAt}
+use Rattle.placing.specs.Place.{slotsAt}
 use Rattle.arcs.specs.CancelRows.{CancelAsks}
 use Rattle.arcs.proofs.Round.{Round}
 use Rattle.arcs.proofs.After.{After, after-none, after-same, round-same}

@@ -11,7 +11,7 @@ use Prim.Native.Nat.{ℕ, _<_}
 use lib.ListN.{length, length-set}
 use Rattle.scope.specs.Lists.{at}
 use Rattle.scope.proofs.Members.{cases}
-use Rattle.pairs.specs.Cancel.{swapNext, swapPrev, dropNext, dropPrev, pairNext, pairPrev, clearTwo}
+use Rattle.pair_links.specs.Links.{swapNext, swapPrev, dropNext, dropPrev, pairNext, pairPrev, clearTwo}
 use Rattle.arcs.proofs.Round.{Put₂, put-set₂}
 
 pub clear-put : (l : List ℕ) (x y : ℕ) → x ≢ y → x < length l → y < length l → Put₂ (at l) (at (clearTwo l x y)) x 0 y 0

@@ -20,8 +20,8 @@ use Rattle.scope.proofs.Members.{Fresh}
 use Rattle.scope.proofs.Sums.{total-change}
 use Rattle.scope.proofs.PoolCount.{count-both}
 use Rattle.free_slots.specs.Search.{usedIn}
-use Rattle.arcs.specs.Place.{freeIn}
-use Rattle.pairs.specs.Cancel.{clearTwo}
+use Rattle.placing.specs.Place.{freeIn}
+use Rattle.pair_links.specs.Links.{clearTwo}
 
 abbrev one : List ℕ → ℕ → ℕ
 one l s = cond (usedIn l s) 1 0
@@ -78,21 +78,3 @@ used-put (k ∷ ks) (v ∷ vs) l n f e h g =
     (λ a i. let w = h a (List·Memᴰ·tail i) in (w .0, rw length-set (w .1), getD-set-other l k a v 0 (λ z. f .0 (Memᴰ·cast (sym z) i)) ∙ w .2))
     (λ w i. g w (List·Memᴰ·tail i)) in
     omega arith
-
--- ---- the free slots counted one by one
-
--- the free slots below i
-abbrev pub freeBelow : List ℕ → ℕ → ℕ
-freeBelow l i = length (below (λ s. not (usedIn l s)) i)
-
-pub free-none : (l : List ℕ) → freeBelow l 0 ≡ 0
-unfolding below
-free-none l = refl
-
-pub free-yes : (l : List ℕ) (i : ℕ) → at l i ≡ 0 → freeBelow l (suc i) ≡ freeBelow l i + 1
-unfolding below
-free-yes l i e = rw (ap (λ (b : Bool). not (not b)) (eq-eqb (at l i) 0 e)) (length-append (below (λ s. not (usedIn l s)) i) (i ∷ []) ∙ omega arith)
-
-pub free-no : (l : List ℕ) (i : ℕ) → at l i ≢ 0 → freeBelow l (suc i) ≡ freeBelow l i
-unfolding below
-free-no l i u = rw (ap (λ (b : Bool). not (not b)) (ne-eqb (at l i) 0 u))

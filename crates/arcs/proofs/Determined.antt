@@ -1,5 +1,5 @@
 -- What the public promises of this crate allow is one outcome each, but for the flags, which are scratch.
---     cell-one, outline-one, pairs-one, added-one
+--     pairs-one, added-one
 -- Assumes nothing.
 use mathlib.Core.Path.{_≡_, sym, _∙_, ap}
 use mathlib.Core.List.{List}
@@ -10,16 +10,7 @@ use Rattle.scope.specs.Table.{Table}
 use Rattle.scope.specs.Memory.{Memory}
 use Rattle.scope.specs.Pool.{freeSlots}
 use Rattle.arcs.specs.CancelRows.{RowsCancelled}
-use Rattle.arcs.specs.Taking.{CellHeld, OutlinePlaced, Added}
-
-pub cell-one : {head cells parent rank h c p r h′ c′ p′ r′ : List ℕ} {x k k′ : ℕ} → CellHeld head cells parent rank x k h c p r → CellHeld head cells parent rank x k′ h′ c′ p′ r′
-    → (k ≡ k′) × (h ≡ h′) × (c ≡ c′) × (p ≡ p′) × (r ≡ r′)
-cell-one C D = (C .place-is ∙ sym (D .place-is), C .head-left ∙ sym (D .head-left), C .cells-left ∙ sym (D .cells-left), C .parent-left ∙ sym (D .parent-left), C .rank-left ∙ sym (D .rank-left))
-
-pub outline-one : {slotRow slotCell prev next rowSlot o a b c d e f a′ b′ c′ d′ e′ f′ : List ℕ} {k : ℕ}
-    → OutlinePlaced slotRow slotCell prev next rowSlot o k a b c d e f → OutlinePlaced slotRow slotCell prev next rowSlot o k a′ b′ c′ d′ e′ f′
-    → (a ≡ a′) × (b ≡ b′) × (c ≡ c′) × (d ≡ d′) × (e ≡ e′)
-outline-one P Q = (P .rows ∙ sym (Q .rows), P .cells ∙ sym (Q .cells), P .prevs ∙ sym (Q .prevs), P .nexts ∙ sym (Q .nexts), P .slots ∙ sym (Q .slots))
+use Rattle.arcs.specs.Taking.{Added}
 
 pub pairs-one : {t : Table} {m m′ m″ : Memory} {n k k′ : ℕ} {o : List ℕ} → RowsCancelled t m n o k m′ → RowsCancelled t m n o k′ m″ → (k ≡ k′) × (m′ ≡ m″)
 pairs-one C D = (C .count ∙ sym (D .count), C .left ∙ sym (D .left))

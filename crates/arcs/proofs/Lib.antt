@@ -1,10 +1,6 @@
 -- The laws behind the functions of this crate, over plain lists, in the order of their use.
 -- Opening.
 pub mod Opening
--- Placing an outline: the rows, the links, both together.
-pub mod Placing
-pub mod Linking
-pub mod PlacedSlots
 -- A pair leaves the links and the pool.
 pub mod Round
 pub mod Pair

@@ -24,9 +24,9 @@ use Rattle.scope.proofs.Puts.{putAll-length}
 use Rattle.scope.proofs.Placed.{placed-used}
 use Rattle.scope.proofs.Sound.{Offered, sound-reverses, sound-linked, none-both, offered-outline, offered-room}
 use Rattle.scope.proofs.Taking.{placedFor, offered-placed, offered-many, offered-linked, placed-cell, placed-forest}
-use Rattle.arcs.specs.Place.{slotsAt}
+use Rattle.placing.specs.Place.{slotsAt}
 use Rattle.arcs.specs.CancelRows.{CancelAsks}
-use Rattle.arcs.proofs.Linking.{slots-at}
+use Rattle.placing.proofs.Linking.{slots-at}
 
 module _ {t : Table} {m : Memory} {x : ℕ} (O : Offered t m x) where
   abbrev p : Memory

@@ -13,7 +13,7 @@ use Rattle.scope.specs.Lists.{at}
 use Rattle.scope.specs.Standing.{Lands}
 use Rattle.scope.proofs.Members.{cases, Put, put-set}
 use Rattle.scope.proofs.Lands.{lands-from, lands-map, stage-from}
-use Rattle.pairs.specs.Cancel.{swapNext, swapPrev, dropNext, dropPrev, pairNext, pairPrev}
+use Rattle.pair_links.specs.Links.{swapNext, swapPrev, dropNext, dropPrev, pairNext, pairPrev}
 use Rattle.arcs.proofs.Round.{Put₂, put-set₂, Round, Less, next-injects, swap-round, unlink-round, unlink-lands}
 
 -- U without the pair

@@ -17,7 +17,8 @@ use Rattle.scope.specs.Pool.{cancels, reverseSlot, metFirst, unitePairs}
 use Rattle.scope.proofs.Tests.{either, clash}
 use Rattle.scope.proofs.Members.{cases}
 use Rattle.scope.proofs.Linked.{at-in, Has, has-in, slot-used, row-slot, cancels-from, mate-mate}
-use Rattle.pairs.specs.Cancel.{pairNext, pairPrev, clearTwo, Closed, PairAsks, PairCancelled}
+use Rattle.pair_links.specs.Links.{pairNext, pairPrev, clearTwo, Closed}
+use Rattle.pairs.specs.Cancel.{PairAsks, PairCancelled}
 use Rattle.arcs.specs.CancelRows.{CancelAsks}
 use Rattle.arcs.proofs.Round.{Put₂}
 use Rattle.pairs.proofs.Freeing.{clear-length}

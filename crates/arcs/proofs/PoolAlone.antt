@@ -13,7 +13,7 @@ use Rattle.scope.specs.Table.{Table, rowCount}
 use Rattle.scope.specs.Memory.{Memory, memory}
 use Rattle.scope.specs.UnionFind.{United, uniting}
 use Rattle.scope.specs.Pool.{cancels, reverseSlot, relinked, metFirst, unitePairs, cancelled}
-use Rattle.pairs.specs.Cancel.{pool}
+use Rattle.pair_links.specs.Links.{pool}
 use Rattle.arcs.specs.CancelRows.{reverses, CancelAsks}
 
 abbrev pub poolOf : Memory → Memory

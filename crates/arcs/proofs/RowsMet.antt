@@ -19,9 +19,9 @@ use Rattle.scope.specs.Memory.{Memory, memory, slotOf, rowIn}
 use Rattle.scope.specs.Pool.{cancels, reverseSlot}
 use Rattle.scope.proofs.Members.{Fresh, place}
 use Rattle.scope.proofs.Linked.{Has, Linked, has-in, row-slot}
-use Rattle.arcs.specs.Place.{slotsAt}
+use Rattle.placing.specs.Place.{slotsAt}
 use Rattle.arcs.specs.CancelRows.{RowAsks, RowCancelled, CancelAsks, RowsCancelled}
-use Rattle.arcs.proofs.Linking.{slots-at}
+use Rattle.placing.proofs.Linking.{slots-at}
 use Rattle.arcs.proofs.Gone.{seen, seen-none, seen-more, seen-not, seen-all, Met}
 use Rattle.arcs.proofs.Cancelling.{Cancelling, cancelling-start}
 use Rattle.arcs.proofs.Skipping.{cancelling-skip}

@@ -15,7 +15,7 @@ use Rattle.scope.proofs.Successor.{Reverses}
 use Rattle.scope.proofs.Rules.{SlotFree}
 use Rattle.scope.proofs.Linked.{Used, Has, Linked}
 use Rattle.scope.proofs.Halving.{Forest}
-use Rattle.arcs.specs.Place.{freeIn, slotsAt}
+use Rattle.placing.specs.Place.{freeIn, slotsAt}
 use Rattle.pairs.specs.Cancel.{PairAsks, PairCancelled}
 
 -- A table of which only the reverse rows matter.

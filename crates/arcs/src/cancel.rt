@@ -2,7 +2,7 @@
 use pairs::cancel_pair;
 use slices::get32;
 ghost use Rattle.free_slots.specs.Search.{Flags};
-ghost use Rattle.pairs.specs.Cancel.{pool};
+ghost use Rattle.pair_links.specs.Links.{pool};
 ghost use Rattle.arcs.specs.CancelRows.{reverses, RowAsks, RowCancelled, CancelAsks, RowsCancelled};
 
 // The edge of `row` cancels where its reverse has a slot. Answers the number of pairs: 0 or 1.

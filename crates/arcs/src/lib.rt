@@ -1,10 +1,9 @@
 // The pool: edges of the accepted outlines in slots, linked to rings. The Rust's `ArcSolvent`.
 mod cancel;
-pub mod place;
 
 use cancel::cancel_rows;
-use place::hold_cell;
-use place::place_outline;
+use placing::hold_cell;
+use placing::place_outline;
 use slices::clear32;
 use slices::clear64;
 use slices::put32;

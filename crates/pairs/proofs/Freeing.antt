@@ -9,7 +9,7 @@ use lib.Seq.{getD-set-other}
 use Rattle.scope.specs.Lists.{at}
 use Rattle.free_slots.specs.Search.{Flags, vacated}
 use Rattle.free_slots.proofs.Flagged.{flags-vacated}
-use Rattle.pairs.specs.Cancel.{clearTwo}
+use Rattle.pair_links.specs.Links.{clearTwo}
 
 pub clear-length : (l : List ℕ) (x y : ℕ) → length (clearTwo l x y) ≡ length l
 unfolding clearTwo

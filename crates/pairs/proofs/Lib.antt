@@ -1,5 +1,4 @@
--- The laws behind a pair that leaves: the links, the slots and their flags, the steps in a row.
-pub mod Closing
+-- The laws behind a pair that leaves: the flags of its slots, and the steps in a row.
 pub mod Freeing
 pub mod Pairs
 -- The promise allows one outcome.

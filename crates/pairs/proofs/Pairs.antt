@@ -7,7 +7,8 @@ use lib.ListN.{length}
 use Rattle.scope.specs.Lists.{at}
 use Rattle.scope.specs.Memory.{Memory, slotOf}
 use Rattle.union_find.specs.Contracts.{UnionAsks, Joined}
-use Rattle.pairs.specs.Cancel.{pairNext, pairPrev, Closed, pool, PairAsks, FreeAsks, Freed, PairCancelled}
+use Rattle.pair_links.specs.Links.{pairNext, pairPrev, Closed, pool, FreeAsks, Freed}
+use Rattle.pairs.specs.Cancel.{PairAsks, PairCancelled}
 
 module _ {m : Memory} {n row back : ℕ} (A : PairAsks m n row back) (a b : ℕ) (ea : a ≡ at (m .rowSlot) row) (eb : b ≡ at (m .rowSlot) back) where
   x-is : a - 1 ≡ slotOf m row

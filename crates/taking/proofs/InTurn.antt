@@ -28,7 +28,7 @@ use Rattle.scope.proofs.Taking.{taken-mode, taken-room, taken-cells}
 use Rattle.scope.proofs.TakingRules.{taken-sound}
 use Rattle.free_slots.specs.Search.{digitAt, Flags}
 use Rattle.free_slots.proofs.Digits.{ones-digit}
-use Rattle.arcs.specs.Place.{freeIn}
+use Rattle.placing.specs.Place.{freeIn}
 use Rattle.taking.specs.declared.take.Taken.{Taken}
 use Rattle.taking.specs.Outlines.{Room}
 use Rattle.taking.specs.Taking.{TakeAsks, Takes, ListAsks, ScratchAsks, TakesAll}

@@ -3,7 +3,7 @@ use crate::scratch::note_count;
 use crate::scratch::note_some;
 use crate::take::take_cell;
 use answers::is_accepted;
-use arcs::place::count_free;
+use placing::count_free;
 use scope::Verdict;
 ghost use Rattle.scope.specs.Table.{table};
 ghost use Rattle.scope.specs.Memory.{memory};

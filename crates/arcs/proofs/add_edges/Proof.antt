@@ -2,7 +2,7 @@
 -- Assumes nothing.
 use native.Mathlib.Omega.{arith}
 use mathlib.Core.Path.{_∙_}
-use Rattle.pairs.specs.Cancel.{pool}
+use Rattle.pair_links.specs.Links.{pool}
 use Rattle.arcs.proofs.Adding.{hold-asks, outline-asks, cancel-asks, added}
 use Rattle.arcs.proofs.add_edges.Statement.{statement}
 use Rattle.arcs.proofs.add_edges.Tie as tie

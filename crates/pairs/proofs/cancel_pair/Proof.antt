@@ -4,7 +4,7 @@ use native.Mathlib.Omega.{arith}
 use Prim.Native.Nat.{_-_, _<_}
 use mathlib.Core.Path.{_∙_}
 use lib.ListN.{length}
-use Rattle.pairs.specs.Cancel.{pool}
+use Rattle.pair_links.specs.Links.{pool}
 use Rattle.pairs.proofs.Pairs.{union-asks, merge-asks, free-asks, pair-done}
 use Rattle.pairs.proofs.Freeing.{flags-cleared}
 use Rattle.pairs.proofs.cancel_pair.Statement.{statement}

@@ -6,7 +6,7 @@ use Prim.Native.Nat.{_+_, _-_, _<_, _^_}
 use lib.ListN.{length}
 use Rattle.scope.specs.Memory.{Memory}
 use Rattle.free_slots.specs.Search.{Flags}
-use Rattle.pairs.specs.Cancel.{pool}
+use Rattle.pair_links.specs.Links.{pool}
 use Rattle.arcs.specs.CancelRows.{reverses}
 use Rattle.arcs.proofs.RowsMet.{Meeting, meeting-start, row-asks, meeting-turn, meeting-end}
 use Rattle.arcs.proofs.cancel.cancel_rows.Statement.{statement}

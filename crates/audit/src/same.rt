@@ -1,8 +1,8 @@
 // Two outlines compared, answer with answer and output with output.
+use answer_numbers::summarise;
 use answers::is_done;
 use codec::bits_of;
 use scope::ReadOut;
-use wire::numbers::summarise;
 ghost use mathlib.Core.Path.{_≡_};
 ghost use mathlib.Core.Bool.{true};
 ghost use lib.Dec.{eqb};

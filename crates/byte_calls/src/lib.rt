@@ -1,11 +1,11 @@
 // Both ways in on bytes, for small tables: the host's limits tested, and the call made within them. The formats are those of scope's Bytes.
+use answer_numbers::result;
 use byte_change::change_within;
 use byte_dissolve::dissolve_within;
 use byte_limits::fits::dissolve_fits;
 use byte_limits::fits::standing_fits;
 use byte_read::read_within;
 use scope::Verdict;
-use wire::numbers::result;
 ghost use mathlib.Core.Path.{_≡_};
 ghost use Rattle.scope.specs.Bytes.{rowsIn, tableIn, stateIn, calling};
 ghost use Rattle.byte_limits.specs.Within.{StandingWithin};

@@ -1,10 +1,10 @@
 // A change of a decoded state, open or offer, and the state back into its bytes unless the call is refused.
+use answer_numbers::result;
 use answers::is_accepted;
 use scope::Verdict;
 use standing::offer;
 use standing::open;
 use wire::columns::encode_state;
-use wire::numbers::result;
 ghost use mathlib.Core.Path.{_≡_};
 ghost use mathlib.Core.List.{[]};
 ghost use Prim.Native.Nat.{_≤_};

@@ -1,11 +1,11 @@
 // The four calls at full size, on slices of numbers as they are in the core. include/zone_outliner.h documents them for C.
+use answer_numbers::result;
 use scope::Verdict;
 use solvent::dissolve;
 use solvent::offer;
 use solvent::open;
 use solvent::read_out;
 use telling::tell;
-use wire::numbers::result;
 ghost use Rattle.scope.specs.Table.{table};
 ghost use Rattle.scope.specs.Memory.{memory, output};
 ghost use Rattle.host.specs.Full.{CallsOpen, CallsOffer, TellsReadOut, TellsDissolve};

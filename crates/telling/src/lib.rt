@@ -1,9 +1,9 @@
 // What read out and dissolve answer at full size, told as numbers: the result, and a summary of four numbers.
+use answer_numbers::result;
+use answer_numbers::summarise;
+use answer_numbers::verdict_of;
 use answers::is_accepted;
 use scope::ReadOut;
-use wire::numbers::result;
-use wire::numbers::summarise;
-use wire::numbers::verdict_of;
 ghost use mathlib.Core.Path.{_≡_};
 ghost use Prim.Native.Nat.{_≤_};
 ghost use lib.ListN.{length};

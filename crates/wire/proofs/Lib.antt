@@ -2,4 +2,3 @@
 pub mod Decoding
 pub mod Encoding
 pub mod Showing
-pub mod Determined

@@ -1,8 +1,8 @@
 // What read out and dissolve write into the bytes of an output: a summary, the rings, the edges.
-use crate::numbers::result;
-use crate::numbers::summarise;
-use crate::numbers::then_fits;
-use crate::numbers::verdict_of;
+use answer_numbers::result;
+use answer_numbers::summarise;
+use answer_numbers::then_fits;
+use answer_numbers::verdict_of;
 use answers::is_accepted;
 use codec::bits_of;
 use codec::encode_u32s;

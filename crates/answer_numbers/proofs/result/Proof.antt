@@ -1,4 +1,4 @@
--- `wire::numbers::result` meets its contract: by cases. Assumes nothing.
+-- `answer_numbers::result` meets its contract: by cases. Assumes nothing.
 use mathlib.Core.Path.{_≡_, ap}
 use Prim.Native.Nat.{ℕ, _+_, _*_, _≤_}
 use native.Mathlib.Omega.{arith}
@@ -7,8 +7,8 @@ use Rattle.scope.specs.declared.Verdict.{Verdict}
 use Rattle.scope.specs.declared.Verdict.the-variants.{Refused}
 use Rattle.scope.specs.Answers.{refusalOf, indexOf}
 use Rattle.scope.specs.Bytes.{in32, resultOf}
-use Rattle.wire.proofs.numbers.result.Statement.{statement}
-use Rattle.wire.proofs.numbers.result.Tie as tie
+use Rattle.answer_numbers.proofs.result.Statement.{statement}
+use Rattle.answer_numbers.proofs.result.Tie as tie
 
 module _ (v : Verdict) (number index : ℕ) (e : v ≡ Refused number index) where
   number-low : refusalOf v ≤ 10 → number ≤ 10

@@ -6,7 +6,7 @@ ghost use mathlib.Core.Path.{_≡_};
 ghost use Prim.Native.Nat.{_≤_, _<_, _^_};
 ghost use Rattle.scope.specs.Answers.{refusalOf, verdictOf, require, _▷_};
 ghost use Rattle.scope.specs.Bytes.{in32, resultOf};
-ghost use Rattle.wire.specs.Sums.{Sums};
+ghost use Rattle.answer_numbers.specs.Sums.{Sums};
 
 // An index in 32 bits; the largest stands for all past it.
 fn index_in_32(n: usize) -> u64

@@ -1,10 +1,10 @@
--- `wire::numbers::summarise` meets its contract: by cases. Assumes nothing.
+-- `answer_numbers::summarise` meets its contract: by cases. Assumes nothing.
 use mathlib.Core.Path.{refl}
 use borrow.Author.Needs.{needs}
 use Rattle.scope.specs.Answers.{kindOf, polygonsOf, ringsOf}
 use Rattle.scope.specs.Bytes.{areaBits}
-use Rattle.wire.proofs.numbers.summarise.Statement.{statement}
-use Rattle.wire.proofs.numbers.summarise.Tie as tie
+use Rattle.answer_numbers.proofs.summarise.Statement.{statement}
+use Rattle.answer_numbers.proofs.summarise.Tie as tie
 
 enum-told : tie.Need-enum-told
 enum-told c = search needs

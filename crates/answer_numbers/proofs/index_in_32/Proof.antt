@@ -1,9 +1,9 @@
--- `wire::numbers::index_in_32` meets its contract. Assumes nothing.
+-- `answer_numbers::index_in_32` meets its contract. Assumes nothing.
 use mathlib.Core.Path.{refl}
 use native.Mathlib.Omega.{arith}
 use borrow.Author.Tests.{lt-ltb, le-ltb}
-use Rattle.wire.proofs.numbers.index_in_32.Statement.{statement}
-use Rattle.wire.proofs.numbers.index_in_32.Tie as tie
+use Rattle.answer_numbers.proofs.index_in_32.Statement.{statement}
+use Rattle.answer_numbers.proofs.index_in_32.Tie as tie
 
 returns : tie.Need-returns
 returns c = rw (lt-ltb (c .before .args .n) 4294967296 (c .if1 .taken)) (refl, c .if1 .taken)

@@ -1,8 +1,8 @@
--- `wire::numbers::verdict_of` meets its contract: by cases. Assumes nothing.
+-- `answer_numbers::verdict_of` meets its contract: by cases. Assumes nothing.
 use borrow.Author.Needs.{needs}
 use Rattle.scope.specs.Answers.{verdictOf}
-use Rattle.wire.proofs.numbers.verdict_of.Statement.{statement}
-use Rattle.wire.proofs.numbers.verdict_of.Tie as tie
+use Rattle.answer_numbers.proofs.verdict_of.Statement.{statement}
+use Rattle.answer_numbers.proofs.verdict_of.Tie as tie
 
 enum-told : tie.Need-enum-told
 enum-told c = search needs

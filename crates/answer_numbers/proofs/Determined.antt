@@ -2,8 +2,8 @@
 -- Assumes nothing.
 use mathlib.Core.Path.{_≡_, sym, _∙_}
 use Rattle.scope.specs.declared.ReadOut.{ReadOut}
-use Rattle.wire.specs.declared.numbers.Summary.{Summary}
-use Rattle.wire.specs.Sums.{Sums}
+use Rattle.answer_numbers.specs.declared.Summary.{Summary}
+use Rattle.answer_numbers.specs.Sums.{Sums}
 
 pub sums-one : (a : ReadOut) {r r′ : Summary} → Sums a r → Sums a r′ → r ≡ r′
 sums-one a p q = λ i. record {

@@ -1,7 +1,7 @@
--- `wire::numbers::then_fits` meets its contract: by cases. Assumes nothing.
+-- `answer_numbers::then_fits` meets its contract: by cases. Assumes nothing.
 use borrow.Author.Needs.{needs}
-use Rattle.wire.proofs.numbers.then_fits.Statement.{statement}
-use Rattle.wire.proofs.numbers.then_fits.Tie as tie
+use Rattle.answer_numbers.proofs.then_fits.Statement.{statement}
+use Rattle.answer_numbers.proofs.then_fits.Tie as tie
 
 enum-told : tie.Need-enum-told
 enum-told c = search needs

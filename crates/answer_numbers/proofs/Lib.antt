@@ -1,0 +1,2 @@
+-- The promises allow one outcome each.
+pub mod Determined

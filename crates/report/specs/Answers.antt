@@ -22,11 +22,11 @@ countedText cells edges rows polygons rings start size group area rowList =
     summaryText (length edges) cells polygons rings (standing start size rings)
     ++ ringsText edges rows start size group area rowList rings
 
--- The whole report of `outline`: the names of the two files; the lines of the cells; the table's edges; the answer and what was written.
-unfoldable pub outlineText : List ℕ → List ℕ → List ℕ → List ℕ → Bool → ReadOut → List ℕ → List ℕ → List ℕ → List Float → List ℕ → List ℕ
-outlineText table list lines edges rows Nothing start size group area rowList = noneText (length edges) (length lines) ++ ascii "nothing: the list has no cells\n"
-outlineText table list lines edges rows Closed start size group area rowList = noneText (length edges) (length lines) ++ ascii "closed: no edge stands\n"
-outlineText table list lines edges rows (Outline polygons rings first) start size group area rowList =
-    countedText (length lines) edges rows polygons rings start size group area rowList
-outlineText table list lines edges rows (Refused number index) start size group area rowList =
+-- The whole report of `outline`: the names of the two files; how many cells, and their lines; the table's edges; the answer and what was written.
+unfoldable pub outlineText : List ℕ → List ℕ → ℕ → List ℕ → List ℕ → Bool → ReadOut → List ℕ → List ℕ → List ℕ → List Float → List ℕ → List ℕ
+outlineText table list cells lines edges rows Nothing start size group area rowList = noneText (length edges) cells ++ ascii "nothing: the list has no cells\n"
+outlineText table list cells lines edges rows Closed start size group area rowList = noneText (length edges) cells ++ ascii "closed: no edge stands\n"
+outlineText table list cells lines edges rows (Outline polygons rings first) start size group area rowList =
+    countedText cells edges rows polygons rings start size group area rowList
+outlineText table list cells lines edges rows (Refused number index) start size group area rowList =
     refusalText table list number index (at lines index)

@@ -45,12 +45,13 @@ fn put_counted(
     )
 }
 
-// The whole report of an answer: what it counts, and each ring or why there is none; or a refusal.
+// The whole report of an answer of so many cells: what it counts, and each ring or why there is none; or a refusal.
 pub fn put_outline(
     out: &mut [u8],
     at: usize,
     table: &[u8],
     list: &[u8],
+    cells: usize,
     lines: &[usize],
     edges: &[u64],
     rows: bool,
@@ -62,21 +63,21 @@ pub fn put_outline(
     row_list: &[u32],
 ) -> usize
     requires { ⌜ at ≤ length (now out) ⌝ }
-    ensures { λ r. ⌜ Wrote (now (out .entry)) at (now (out .exit)) r (outlineText (now (table .entry)) (now (list .entry)) (now (lines .entry)) (now (edges .entry)) rows answer (now (start .entry)) (now (size .entry)) (now (group .entry)) (now (area .entry)) (now («row_list» .entry))) ⌝ }
+    ensures { λ r. ⌜ Wrote (now (out .entry)) at (now (out .exit)) r (outlineText (now (table .entry)) (now (list .entry)) cells (now (lines .entry)) (now (edges .entry)) rows answer (now (start .entry)) (now (size .entry)) (now (group .entry)) (now (area .entry)) (now («row_list» .entry))) ⌝ }
 {
     match answer {
         ReadOut::Nothing => {
-            let counted = put_summary(out, at, edges.len(), lines.len(), 0, 0, 0);
+            let counted = put_summary(out, at, edges.len(), cells, 0, 0, 0);
             put_bytes(out, counted, b"nothing: the list has no cells\n")
         }
         ReadOut::Closed => {
-            let counted = put_summary(out, at, edges.len(), lines.len(), 0, 0, 0);
+            let counted = put_summary(out, at, edges.len(), cells, 0, 0, 0);
             put_bytes(out, counted, b"closed: no edge stands\n")
         }
         ReadOut::Outline(polygons, rings, _) => put_counted(
             out,
             at,
-            lines.len(),
+            cells,
             edges,
             rows,
             polygons,

@@ -31,11 +31,11 @@ told-fits n room done size e =
     (λ (h : n < room). ap (λ (k : ℕ). toldBy k room done) (e ∙ from-0 ∙ min-eq-left (let z : n ≤ room = omega arith in z)))
     (le-or-lt room n)
 
-pub tells : {table list lines edges : List ℕ} {answer : ReadOut} {o : Output} {before after : List ℕ} {size : ℕ} {done : Bool} {told : Told}
-    → Wrote before 0 after size (zoneText table list lines edges answer o) → done ≡ isAccepted (verdictOf answer) → told ≡ toldBy size (length before) done
-    → Tells table list lines edges answer o before after told
-tells {table} {list} {lines} {edges} {answer} {o} {before} {after} {size} {done} W d t = record {
+pub tells : {table list : List ℕ} {cells : ℕ} {lines edges : List ℕ} {answer : ReadOut} {o : Output} {before after : List ℕ} {size : ℕ} {done : Bool} {told : Told}
+    → Wrote before 0 after size (zoneText table list cells lines edges answer o) → done ≡ isAccepted (verdictOf answer) → told ≡ toldBy size (length before) done
+    → Tells table list cells lines edges answer o before after told
+tells {table} {list} {cells} {lines} {edges} {answer} {o} {before} {after} {size} {done} W d t = record {
   bytes = W .bytes;
   answered = t ∙ ap (λ (b : Bool). toldBy size (length before) b) d
-      ∙ told-fits (length (zoneText table list lines edges answer o)) (length before) (isAccepted (verdictOf answer)) size (W .place);
+      ∙ told-fits (length (zoneText table list cells lines edges answer o)) (length before) (isAccepted (verdictOf answer)) size (W .place);
 }

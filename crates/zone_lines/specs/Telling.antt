@@ -19,7 +19,7 @@ use Rattle.zone_lines.specs.Zones.{zoneText}
 unfoldable pub toldBy : ℕ → ℕ → Bool → Told
 toldBy size room done = cond (ltb size room) (cond done (Answer size) (Refusal size)) TooLong
 
--- The names of the two files; the lines of the cells; the table's edges; the answer and what was read out; the slice before and after.
-pub record Tells (table list lines edges : List ℕ) (answer : ReadOut) (o : Output) (before after : List ℕ) (told : Told) : Type 0 where
-  pub bytes : after ≡ sets before 0 (zoneText table list lines edges answer o)
-  pub answered : told ≡ toldBy (length (zoneText table list lines edges answer o)) (length before) (isAccepted (verdictOf answer))
+-- The names of the two files; how many cells, and their lines; the table's edges; the answer and what was read out; the slice before and after.
+pub record Tells (table list : List ℕ) (cells : ℕ) (lines edges : List ℕ) (answer : ReadOut) (o : Output) (before after : List ℕ) (told : Told) : Type 0 where
+  pub bytes : after ≡ sets before 0 (zoneText table list cells lines edges answer o)
+  pub answered : told ≡ toldBy (length (zoneText table list cells lines edges answer o)) (length before) (isAccepted (verdictOf answer))

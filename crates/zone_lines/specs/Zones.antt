@@ -3,7 +3,6 @@
 use Prim.Native.Nat.{ℕ}
 use mathlib.Core.List.{List, [], _++_}
 use lib.Ieee.{Float}
-use lib.ListN.{length}
 use Rattle.scope.specs.declared.ReadOut.{ReadOut}
 use Rattle.scope.specs.declared.ReadOut.the-variants.{Nothing, Closed, Outline, Refused}
 use Rattle.scope.specs.Lists.{at}
@@ -24,10 +23,10 @@ countsText cells polygons rings edges first =
     ++ areaText first
     ++ ascii "\n"
 
--- The names of the two files; the lines of the cells; the table's edges; the answer and what was read out. A refusal is one line alone.
-unfoldable pub zoneText : List ℕ → List ℕ → List ℕ → List ℕ → ReadOut → Output → List ℕ
-zoneText table list lines edges Nothing o = shown list ++ ascii ": nothing, cells 0, polygons 0, rings 0, standing edges 0\n"
-zoneText table list lines edges Closed o = shown list ++ noted (ascii ": closed, cells ") (length lines) (ascii ", polygons 0, rings 0, standing edges 0\n")
-zoneText table list lines edges (Outline polygons rings first) o =
-    shown list ++ countsText (length lines) polygons rings (standing (o .start) (o .size) rings) first ++ ringLines edges o rings
-zoneText table list lines edges (Refused number index) o = refusalText table list number index (at lines index)
+-- The names of the two files; how many cells, and their lines; the table's edges; the answer and what was read out. A refusal is one line alone.
+unfoldable pub zoneText : List ℕ → List ℕ → ℕ → List ℕ → List ℕ → ReadOut → Output → List ℕ
+zoneText table list cells lines edges Nothing o = shown list ++ ascii ": nothing, cells 0, polygons 0, rings 0, standing edges 0\n"
+zoneText table list cells lines edges Closed o = shown list ++ noted (ascii ": closed, cells ") cells (ascii ", polygons 0, rings 0, standing edges 0\n")
+zoneText table list cells lines edges (Outline polygons rings first) o =
+    shown list ++ countsText cells polygons rings (standing (o .start) (o .size) rings) first ++ ringLines edges o rings
+zoneText table list cells lines edges (Refused number index) o = refusalText table list number index (at lines index)

@@ -57,6 +57,7 @@ fn put_zone(
     at: usize,
     table: &[u8],
     list: &[u8],
+    cells: usize,
     lines: &[usize],
     edges: &[u64],
     answer: ReadOut,
@@ -67,7 +68,7 @@ fn put_zone(
     row_list: &[u32],
 ) -> usize
     requires { ⌜ at ≤ length (now out) ⌝ }
-    ensures { λ r. ⌜ Wrote (now (out .entry)) at (now (out .exit)) r (zoneText (now (table .entry)) (now (list .entry)) (now (lines .entry)) (now (edges .entry)) answer (output (now (start .entry)) (now (size .entry)) (now (group .entry)) (now (area .entry)) (now («row_list» .entry)))) ⌝ }
+    ensures { λ r. ⌜ Wrote (now (out .entry)) at (now (out .exit)) r (zoneText (now (table .entry)) (now (list .entry)) cells (now (lines .entry)) (now (edges .entry)) answer (output (now (start .entry)) (now (size .entry)) (now (group .entry)) (now (area .entry)) (now («row_list» .entry)))) ⌝ }
 {
     match answer {
         ReadOut::Nothing => {
@@ -84,14 +85,14 @@ fn put_zone(
                 out,
                 named,
                 b": closed, cells ",
-                lines.len(),
+                cells,
                 b", polygons 0, rings 0, standing edges 0\n",
             )
         }
         ReadOut::Outline(polygons, rings, first) => {
             let named = put_shown(out, at, list);
             let stand = standing(start, size, rings);
-            let counted = put_counts(out, named, lines.len(), polygons, rings, stand, first);
+            let counted = put_counts(out, named, cells, polygons, rings, stand, first);
             put_ring_lines(
                 out,
                 counted,
@@ -124,11 +125,12 @@ fn told_of(size: usize, room: usize, done: bool) -> Told
     Told::TooLong
 }
 
-// Tells what dissolve answered of a list, and what it read out: the names of the two files, the line of each cell, the table's edges.
+// Tells what dissolve answered of a list, and what it read out: the names of the two files, how many cells and the line of each, the table's edges.
 pub fn tell_zone(
     out: &mut [u8],
     table: &[u8],
     list: &[u8],
+    cells: usize,
     lines: &[usize],
     edges: &[u64],
     answer: ReadOut,
@@ -138,7 +140,7 @@ pub fn tell_zone(
     area: &[f64],
     row_list: &[u32],
 ) -> Told
-    ensures { λ r. ⌜ Tells (now (table .entry)) (now (list .entry)) (now (lines .entry)) (now (edges .entry)) answer (output (now (start .entry)) (now (size .entry)) (now (group .entry)) (now (area .entry)) (now («row_list» .entry))) (now (out .entry)) (now (out .exit)) r ⌝ }
+    ensures { λ r. ⌜ Tells (now (table .entry)) (now (list .entry)) cells (now (lines .entry)) (now (edges .entry)) answer (output (now (start .entry)) (now (size .entry)) (now (group .entry)) (now (area .entry)) (now («row_list» .entry))) (now (out .entry)) (now (out .exit)) r ⌝ }
 {
     let room = out.len();
     let written = put_zone(
@@ -146,6 +148,7 @@ pub fn tell_zone(
         0,
         table,
         list,
+        cells,
         lines,
         edges,
         answer,

@@ -61,13 +61,13 @@ module _ (t : Table) (m : Memory) (x : ℕ) (xs : List ℕ) {v : Verdict} {m′ 
       stays Accepted e = cc
       stays (Refused number index) e = refl
 
-pub record InTurn (t : Table) (m₀ : Memory) (cs : List ℕ) (m : Memory) (rows full : List ℕ) (free i : ℕ) : Type 0 where
+pub record InTurn (t : Table) (m₀ : Memory) (cs : List ℕ) (m : Memory) (rows vacant : List ℕ) (free i : ℕ) : Type 0 where
   pub within : i ≤ length cs
   pub asks : ListAsks t m (drop i cs)
   pub same : offeringAll t m₀ cs ≡ offeringAll t m (drop i cs)
   pub free-count : free ≡ length (freeSlots m)
-  pub flags : Flags full (m .slotRow)
-  pub long-full : length full ≡ 1024
+  pub flags : Flags vacant (m .slotRow)
+  pub long-vacant : length vacant ≡ 1024
   pub room : (j : ℕ) → j < length cs → Room (t .edges) (at cs j) rows
   pub sized : Sized m₀ m
 
@@ -88,12 +88,12 @@ turn-start {m = m} A e = record {
   same = refl;
   free-count = e;
   flags = all-flags (A .asks .sound);
-  long-full = length-replicate {A = ℕ} 1024 18446744073709551615;
+  long-vacant = length-replicate {A = ℕ} 1024 18446744073709551615;
   room = A .room;
   sized = sized-refl m;
 }
 
-module _ {t : Table} {m₀ m : Memory} {cs rows full : List ℕ} {free i : ℕ} (I : InTurn t m₀ cs m rows full free i) where
+module _ {t : Table} {m₀ m : Memory} {cs rows vacant : List ℕ} {free i : ℕ} (I : InTurn t m₀ cs m rows vacant free i) where
   pub turn-end : length cs ≤ i → TakesAll t m₀ cs Accepted m
   unfolding offeringAll
   turn-end h = record { done = sym (I .same ∙ ap (offeringAll t m) (drop-of-length-le cs {i = i} h)); sound = λ _. I .asks .sound }
@@ -106,10 +106,10 @@ module _ {t : Table} {m₀ m : Memory} {cs rows full : List ℕ} {free i : ℕ} 
     in-list = offers-in-turn (keptMode m) (targetOf t) (places m) (heldCells m) (at cs i) (drop (suc i) cs)
         (subst (λ (l : List ℕ). listVerdict (keptMode m) (targetOf t) (places m) (heldCells m ++ l) ≡ Accepted) next (I .asks .list))
 
-    pub turn-asks : TakeAsks t m rows full (at cs i) free
+    pub turn-asks : TakeAsks t m rows vacant (at cs i) free
     turn-asks = record { sound = I .asks .sound; cell = in-list .1; free-count = I .free-count; flags = I .flags; room = I .room i h }
 
-    module _ {r : Taken} {m′ : Memory} {full′ : List ℕ} (T : Takes t m (at cs i) r m′ full′) where
+    module _ {r : Taken} {m′ : Memory} {vacant′ : List ℕ} (T : Takes t m (at cs i) r m′ vacant′) where
       done : record { answer = r .verdict; left = m′ } ≡ offering t m (at cs i)
       done = T .done ∙ offering-is (I .asks .sound) (at cs i) (in-list .1)
 
@@ -133,14 +133,14 @@ module _ {t : Table} {m₀ m : Memory} {cs rows full : List ℕ} {free i : ℕ} 
         list-now = rw (taken-mode offered-now, taken-room offered-now, taken-cells offered-now, append-assoc)
             (subst (λ (l : List ℕ). listVerdict (keptMode m) (targetOf t) (places m) (heldCells m ++ l) ≡ Accepted) next (I .asks .list))
 
-        pub turn-on : {rows′ : List ℕ} → length rows′ ≡ length rows → length full′ ≡ length full → Sized m m′ → InTurn t m₀ cs m′ rows′ full′ (r .free) (i + 1)
+        pub turn-on : {rows′ : List ℕ} → length rows′ ≡ length rows → length vacant′ ≡ length vacant → Sized m m′ → InTurn t m₀ cs m′ rows′ vacant′ (r .free) (i + 1)
         turn-on k f z = record {
           within = omega arith;
           asks = rw (add-one i) (subst (λ (l : Memory). ListAsks t l (drop (suc i) cs)) (sym taken-left) (record { sound = taken-sound offered-now; list = list-now }));
           same = rw (add-one i) (I .same ∙ ap (offeringAll t m) next ∙ all-on t m (at cs i) (drop (suc i) cs) done e);
           free-count = T .free-count;
           flags = T .flags;
-          long-full = f ∙ I .long-full;
+          long-vacant = f ∙ I .long-vacant;
           room = λ j l. record { fits = λ n a b. let s = I .room j l .fits n a b in omega arith };
           sized = sized-on (I .sized) z;
         }

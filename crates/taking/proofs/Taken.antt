@@ -59,7 +59,7 @@ answers false twice false again enough count held free p q r = absurd (clash {b 
 answers false true true again enough count held free p q r = rw (← q refl)
 answers false false true again enough count held free p q r = rw (← q refl, r refl refl)
 
-module _ {t : Table} {m : Memory} {rows full : List ℕ} {x free : ℕ} (asks : TakeAsks t m rows full x free) where
+module _ {t : Table} {m : Memory} {rows vacant : List ℕ} {x free : ℕ} (asks : TakeAsks t m rows vacant x free) where
   pub outline-asks : OutlineAsks (t .edges) (m .rowMark) rows x
   outline-asks =
       let T = sound-table (asks .sound) in
@@ -87,11 +87,11 @@ module _ {t : Table} {m : Memory} {rows full : List ℕ} {x free : ℕ} (asks : 
       verdict-is : v ≡ outlineVerdict t m (outlineRows t x)
       verdict-is = q ∙ answer-is
 
-      pub not-taken : isAccepted v ≡ false → {m₁ : Memory} → m₁ ≡ m → Takes t m x (record { verdict = v; free = free }) m₁ full
+      pub not-taken : isAccepted v ≡ false → {m₁ : Memory} → m₁ ≡ m → Takes t m x (record { verdict = v; free = free }) m₁ vacant
       not-taken e s = record {
         done = ap (λ (l : Memory). record { answer = v; left = l }) s ∙ turned-down v (taking t m x) m e ∙ ap (λ (w : Verdict). outcome w (taking t m x) m) verdict-is;
         free-count = asks .free-count ∙ ap (λ (l : Memory). length (freeSlots l)) (sym s);
-        flags = subst (λ (l : Memory). Flags full (l .slotRow)) (sym s) (asks .flags);
+        flags = subst (λ (l : Memory). Flags vacant (l .slotRow)) (sym s) (asks .flags);
       }
 
       module _ (e : isAccepted v ≡ true) where
@@ -118,21 +118,21 @@ module _ {t : Table} {m : Memory} {rows full : List ℕ} {x free : ℕ} (asks : 
         unfolding outlineRows
         rows-are = f .stored (found-all .0) (found-all .1)
 
-        pub add-asks : {m₁ : Memory} → m₁ ≡ m → AddAsks t m₁ full x (take (r .count) rows′)
+        pub add-asks : {m₁ : Memory} → m₁ ≡ m → AddAsks t m₁ vacant x (take (r .count) rows′)
         add-asks s = record {
           offered = subst (λ (l : Memory). Offered t l x) (sym s) offers;
-          flags = subst (λ (l : Memory). Flags full (l .slotRow)) (sym s) (asks .flags);
+          flags = subst (λ (l : Memory). Flags vacant (l .slotRow)) (sym s) (asks .flags);
           rows = rows-are;
         }
 
-        module _ {m₁ m₂ : Memory} {pairs : ℕ} {full′ : List ℕ} (s : m₁ ≡ m) (added : Added t m₁ x pairs m₂ full′) where
+        module _ {m₁ m₂ : Memory} {pairs : ℕ} {vacant′ : List ℕ} (s : m₁ ≡ m) (added : Added t m₁ x pairs m₂ vacant′) where
           free-then : length (freeSlots m₂) + r .count ≡ free + 2 * pairs
           free-then = rw (count-is (found-all .0) (found-all .1), asks .free-count) (added .free ∙ ap (λ (l : Memory). length (freeSlots l) + 2 * pairs) s)
 
           pub free-fits : slots m₂ ≤ 65536 → (2 * pairs ≤ 131072) × (free - r .count + 2 * pairs ≤ 65536)
           free-fits h = let k = free-few m₂ in let f = free-then in let n = enough in let c = free-few m in let l = asks .sound .lengths .most-slots in let z = asks .free-count in (omega arith, omega arith)
 
-          pub is-taken : Takes t m x (record { verdict = v; free = free - r .count + 2 * pairs }) m₂ full′
+          pub is-taken : Takes t m x (record { verdict = v; free = free - r .count + 2 * pairs }) m₂ vacant′
           is-taken = record {
             done = carried-out v (taking t m x) m e (added .left ∙ ap (λ (l : Memory). taking t l x) s) ∙ ap (λ (w : Verdict). outcome w (taking t m x) m) verdict-is;
             free-count = let f = free-then in let n = enough in omega arith;

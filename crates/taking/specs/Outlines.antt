@@ -1,7 +1,7 @@
 -- A cell's outline as rows: what is asked of the slices, and what is found.
 -- Assumes nothing.
 use mathlib.Core.Path.{_≡_}
-use mathlib.Core.Bool.{Bool, true, false, _&&_, not}
+use mathlib.Core.Bool.{Bool, true, false, _&&_, _||_, not}
 use mathlib.Core.List.{List, [], _∷_, _++_, map, List·Memᴰ}
 use Prim.Native.Nat.{ℕ, _+_, _^_, _<_, _≤_}
 use lib.Dec.{leb, ltb}
@@ -31,9 +31,9 @@ isNear target x = leb target (resolutionOf x + 4)
 abbrev pub nearAt : ℕ → List ℕ → ℕ → Bool
 nearAt target cs i = isNear target (at cs i)
 
--- A few cells, and each of them near.
-unfoldable pub shortOutlines : ℕ → List ℕ → Bool
-shortOutlines target cs = ltb (length cs) 8 && passes (nearAt target cs) (length cs)
+-- A table of at most 4,096 rows, or a few cells and each of them near.
+unfoldable pub fewSuffice : List ℕ → List ℕ → Bool
+fewSuffice es cs = leb (length es) 4096 || (ltb (length cs) 8 && passes (nearAt (resolutionOf (at es 0)) cs) (length cs))
 
 -- A valid cell, a table in order, marks that are clear, and room for the rows.
 pub record OutlineAsks (es mark rows : List ℕ) (x : ℕ) : Type 0 where

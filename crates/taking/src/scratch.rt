@@ -2,16 +2,20 @@
 use index::resolution;
 use row_search::notes::note_rows;
 ghost use mathlib.Core.Path.{_≡_};
-ghost use Prim.Native.Nat.{_*_, _<_, _≤_, _^_};
+ghost use Prim.Native.Nat.{_*_, _<_, _≤_};
 ghost use lib.ListN.{length};
-ghost use Rattle.scope.specs.Lists.{at, passes};
-ghost use Rattle.scope.specs.Cells.{resolutionOf};
-ghost use Rattle.taking.specs.Outlines.{isNear, nearAt, shortOutlines};
+ghost use Rattle.scope.specs.Lists.{passes};
+ghost use Rattle.taking.specs.Outlines.{isNear, nearAt, fewSuffice};
 
 // The most rows of a table, and so of an outline that is taken; and of notes.
 const MAX_ROWS: usize = 65536;
 
 const MAX_NOTES: usize = 131072;
+
+// Rows of a small table, and notes for them.
+pub(crate) const FEW_ROWS: usize = 4096;
+
+pub(crate) const FEW_NOTES: usize = 16384;
 
 // Fewer cells than these are sooner looked up than the rows noted.
 const FEW_CELLS: usize = 8;
@@ -48,11 +52,14 @@ fn all_near(list: &[u64], target: usize) -> bool
     true
 }
 
-// A few cells with short outlines.
-pub(crate) fn short_outlines(edges: &[u64], list: &[u64]) -> bool
+// Whether short arrays serve: for a small table, and for a few cells with short outlines.
+pub(crate) fn few_suffice(edges: &[u64], list: &[u64]) -> bool
     requires { ⌜ 0 < length (now edges) ⌝ }
-    ensures { λ b. ⌜ b ≡ shortOutlines (resolutionOf (at (now (edges .entry)) 0)) (now (list .entry)) ⌝ }
+    ensures { λ b. ⌜ b ≡ fewSuffice (now (edges .entry)) (now (list .entry)) ⌝ }
 {
+    if edges.len() <= FEW_ROWS {
+        return true;
+    }
     if FEW_CELLS <= list.len() {
         return false;
     }
@@ -60,7 +67,7 @@ pub(crate) fn short_outlines(edges: &[u64], list: &[u64]) -> bool
 }
 
 // How many notes, of as many as there is room for: four for each row, and none for a few cells, which are sooner looked up than the rows noted.
-pub(crate) fn note_count(rows: usize, cells: usize, most: usize) -> usize
+fn note_count(rows: usize, cells: usize, most: usize) -> usize
     ensures { λ r. ⌜ (r ≤ most) × (r ≤ 4 * rows) ⌝ }
 {
     if cells < FEW_CELLS {
@@ -72,11 +79,14 @@ pub(crate) fn note_count(rows: usize, cells: usize, most: usize) -> usize
     4 * rows
 }
 
-// Notes the rows, where there is a place for notes.
-pub(crate) fn note_some(edges: &[u64], notes: &mut [u32])
-    requires { ⌜ (length (now edges) ≤ 2 ^ 32) × (length (now notes) ≤ 2 ^ 32) ⌝ }
+// Notes the rows for so many cells, in the first places; how many places.
+pub(crate) fn note_some(edges: &[u64], notes: &mut [u32], cells: usize) -> usize
+    requires { ⌜ length (now edges) ≤ 65536 ⌝ }
+    ensures { λ r. ⌜ r ≤ length (now (notes .entry)) ⌝ }
 {
-    if 0 < notes.len() {
-        note_rows(edges, notes);
+    let count = note_count(edges.len(), cells, notes.len());
+    if 0 < count {
+        note_rows(edges, &mut notes[..count]);
     }
+    count
 }

@@ -171,15 +171,51 @@ large=$(head -c 120000 /dev/zero | tr '\0' x)
 tells 'points over 0' env A="$large" B="$large" C="$large" D="$large" E="$large" F="$large" G="$large" H="$large" bin/year_audit "$table" samples/year.feed
 tells 'polygons 2' env A="$large" B="$large" C="$large" D="$large" E="$large" F="$large" G="$large" H="$large" bin/outline "$table" "$zone"
 
-# ---- a file that may not be read, where the tests do not run as root, whom nothing stops
+# ---- a file that may not be read. Nothing stops root, so there another user runs copies of the tools.
 
-if [ "$(id -u)" -ne 0 ]; then
-  cp "$zone" "$work/locked"
-  chmod 0 "$work/locked"
-  for tool in outline till_import year_audit; do
-    refused "$work/locked: this file may not be read" bin/$tool "$table" "$work/locked"
-  done
+cp "$zone" "$work/locked"
+chmod 0 "$work/locked"
+other=()
+home=.
+if [ "$(id -u)" -eq 0 ]; then
+  other=(setpriv --reuid=65534 --clear-groups)
+  home=$work/home
+  mkdir -p "$home/crates" "$home/samples" "$home/target"
+  touch "$home/crates.txt"
+  cp "$table" "$home/samples"
+  cp -r target/bin "$home/target"
+  cp -R -P bin "$home"
+  chmod 755 "$work"
 fi
+if "${other[@]}" test -r "$home/$table" 2>/dev/null; then
+  for tool in outline till_import year_audit; do
+    refused "$work/locked: this file may not be read" "${other[@]}" "$home/bin/$tool" "$home/$table" "$work/locked"
+  done
+else
+  echo "a file that may not be read was left out: no setpriv, or no folder that another user reaches"
+fi
+
+# ---- names and words with a line end, and with other control bytes: one line, with a question mark for each
+
+broken=$work/$'two\nlines'
+named=$work/'two?lines'
+cp "$work/word.cells" "$broken.cells"
+cp "$work/twice.cells" "$broken.twice"
+cp "$work/cut.table" "$broken.table"
+: >"$broken.empty"
+for tool in outline till_import year_audit; do
+  refused "$named: there is no such file" bin/$tool "$broken" "$zone"
+  refused "$named: there is no such file" bin/$tool "$table" "$broken"
+  refused "$work/?[1m?: there is no such file" bin/$tool "$table" "$work/"$'\033[1m\177'
+  refused "$named.table byte 42220: this row is cut off, a row has 20 bytes" bin/$tool "$broken.table" "$zone"
+  refused "$named.empty row 0: refused 1, $first_row" bin/$tool "$broken.empty" "$zone"
+  refused "$named.cells line 2, byte 1: a line has one cell, 1 to 16 hexadecimal digits, with or without 0x" bin/$tool "$table" "$broken.cells"
+  refused "$tool: argument 1, --two?lines, is no option (a file of that name is given as ./--two?lines); $tool --help says more" bin/$tool $'--two\nlines' "$table" "$zone"
+done
+for tool in outline till_import; do
+  refused "$named.twice line 3: refused 3, this cell is there already, or lies under another" bin/$tool "$table" "$broken.twice"
+done
+tells "$named.empty: nothing, cells 0, polygons 0, rings 0, standing edges 0" bin/till_import "$table" "$broken.empty"
 
 # ---- lists that dissolve refuses, each with the line of the cell
 

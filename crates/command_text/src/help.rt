@@ -16,8 +16,8 @@ fn put_use(out: &mut [u8], at: usize, tool: Tool) -> usize
             out,
             at,
             b"usage: outline TABLE CELLS [--mode even|mixed] [--rows]
-Dissolves the cells of a list and prints their outline: what it counts, then each polygon with its rings, the outer first,
-and of each ring its group, its area (on a sphere of radius 1) and its edges.
+Dissolves the cells of a list and prints their outline: what it counts, then each polygon with its group and its rings, the outer
+first, and of each ring its area (on a sphere of radius 1) and its edges.
 ",
         ),
         Tool::TillImport => put_bytes(
@@ -87,8 +87,8 @@ pub fn put_help(out: &mut [u8], at: usize, tool: Tool) -> usize
         out,
         listed,
         b"  --help  this text, wherever it stands; a file whose name begins with - is given as ./-name
-Answers go to standard output. What is wrong with an argument or a file, or why the library refuses, is one line on standard error,
-and then the exit status is 1.
+Answers go to standard output. What is wrong with an argument or a file, or why the library refuses a table or a list, is one line on
+standard error, and then the exit status is 1.
 ",
     )
 }

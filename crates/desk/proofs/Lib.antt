@@ -1,6 +1,8 @@
--- Laws of loads and texts: the proofs of this crate cite the first two, those of the tools Fits, Within and Whole.
+-- Laws of loads, outputs and reports, which the proofs of this crate and those of the tools cite.
 pub mod Loading
 pub mod Fits
 pub mod Within
 pub mod Whole
+pub mod Outputs
+pub mod Pages
 pub mod Determined

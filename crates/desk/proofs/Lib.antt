@@ -4,5 +4,6 @@ pub mod Fits
 pub mod Within
 pub mod Whole
 pub mod Outputs
+pub mod Zeros
 pub mod Pages
 pub mod Determined

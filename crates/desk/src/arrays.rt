@@ -1,5 +1,4 @@
-// Arrays of full size, for the programs: 65,536 rows, 65,536 slots, 16,384 places. Those of an output promise that they hold zeros, so that
-// two outputs can be compared whole; the others their length alone: nothing counts on what is in them.
+// Arrays of full size, for the programs: 65,536 rows, 65,536 slots, 16,384 places. All hold zeros.
 //
 // They all lie on the stack, of which bin/tool asks 8 MB. In bytes:
 //     a table      1,310,720   row_words, row_numbers, row_floats
@@ -10,48 +9,48 @@
 //     a text       1,441,792   text_bytes
 // A table, a state, an output, a list and a text are 5.7 MB.
 ghost use mathlib.Core.Path.{_≡_};
-ghost use lib.ListN.{length, replicate};
+ghost use lib.ListN.{replicate};
 ghost use Rattle.scope.specs.Area.{positiveZero};
 
 pub fn row_words() -> [u64; 65536]
-    ensures { λ r. ⌜ 65536 ≡ length r ⌝ }
+    ensures { λ r. ⌜ r ≡ replicate 65536 0 ⌝ }
 {
     [0; 65536]
 }
 
 pub fn row_numbers() -> [u32; 65536]
-    ensures { λ r. ⌜ 65536 ≡ length r ⌝ }
+    ensures { λ r. ⌜ r ≡ replicate 65536 0 ⌝ }
 {
     [0; 65536]
 }
 
 pub fn row_floats() -> [f64; 65536]
-    ensures { λ r. ⌜ 65536 ≡ length r ⌝ }
+    ensures { λ r. ⌜ r ≡ replicate 65536 positiveZero ⌝ }
 {
     [0.0; 65536]
 }
 
 pub fn slot_numbers() -> [u32; 65536]
-    ensures { λ r. ⌜ 65536 ≡ length r ⌝ }
+    ensures { λ r. ⌜ r ≡ replicate 65536 0 ⌝ }
 {
     [0; 65536]
 }
 
 pub fn place_words() -> [u64; 16384]
-    ensures { λ r. ⌜ 16384 ≡ length r ⌝ }
+    ensures { λ r. ⌜ r ≡ replicate 16384 0 ⌝ }
 {
     [0; 16384]
 }
 
 pub fn place_numbers() -> [u32; 16384]
-    ensures { λ r. ⌜ 16384 ≡ length r ⌝ }
+    ensures { λ r. ⌜ r ≡ replicate 16384 0 ⌝ }
 {
     [0; 16384]
 }
 
 // The lines of a list's cells.
 pub fn place_lines() -> [usize; 16384]
-    ensures { λ r. ⌜ 16384 ≡ length r ⌝ }
+    ensures { λ r. ⌜ r ≡ replicate 16384 0 ⌝ }
 {
     [0; 16384]
 }
@@ -77,13 +76,13 @@ pub fn edge_numbers() -> [u32; 32768]
 
 // A feed has many more cells than it leaves held.
 pub fn feed_words() -> [u64; 65536]
-    ensures { λ r. ⌜ 65536 ≡ length r ⌝ }
+    ensures { λ r. ⌜ r ≡ replicate 65536 0 ⌝ }
 {
     [0; 65536]
 }
 
 pub fn feed_lines() -> [usize; 65536]
-    ensures { λ r. ⌜ 65536 ≡ length r ⌝ }
+    ensures { λ r. ⌜ r ≡ replicate 65536 0 ⌝ }
 {
     [0; 65536]
 }
@@ -91,7 +90,7 @@ pub fn feed_lines() -> [usize; 65536]
 // The bytes of a file, and then of a report. A table of 65,536 rows has 1,310,720 bytes; the longest report on real cells, 5,461 that do not
 // touch, has some 1,190,000. The rest is for made-up tables with more rings. A text that just fits cannot be told from one cut off, and is not printed.
 pub fn text_bytes() -> [u8; 1441792]
-    ensures { λ r. ⌜ 1441792 ≡ length r ⌝ }
+    ensures { λ r. ⌜ r ≡ replicate 1441792 0 ⌝ }
 {
     [0; 1441792]
 }

@@ -3,6 +3,7 @@
 use borrow.Author.Needs.{needs}
 use mathlib.Core.Path.{refl, sym}
 use lib.Seq.{length-take-le}
+use Rattle.desk.proofs.Zeros.{zeros-long}
 use Rattle.feed_audit.proofs.Whole.{audit-is}
 use Rattle.feed_audit.proofs.audit.Statement.{statement}
 use Rattle.feed_audit.proofs.audit.Tie as tie
@@ -14,10 +15,10 @@ slice-aggregate-stand : tie.Need-slice-aggregate-stand
 slice-aggregate-stand c = search needs
 
 stand-requires : tie.Need-stand-requires
-stand-requires c κs = (c .before .before .before .before .before .before .before .before .before .before .before .before .before .before .before .before .before .before .before .before .before .before .before .pre, c .before .before .before .before .before .before .before .place-words .ensures)
+stand-requires c κs = (c .before .before .before .before .before .before .before .before .before .before .before .before .before .before .before .before .before .before .before .before .before .before .before .pre, zeros-long 16384 (c .before .before .before .before .before .before .before .place-words .ensures))
 
 array-share-prefix-list : tie.Need-array-share-prefix-list
-array-share-prefix-list c = let few = c .before .before .before .before .before .before .before .before .before .before .before .before .before .before .stand .ensures .1 in let long = c .before .before .before .before .before .before .before .before .before .before .before .before .before .before .before .before .before .before .before .before .before .before .place-words .ensures in let same = c .before .before .before .before .before .before .before .before .before .before .before .before .before .before .stand .kept .1 .1 .1 .1 .1 .0 in search needs
+array-share-prefix-list c = let few = c .before .before .before .before .before .before .before .before .before .before .before .before .before .before .stand .ensures .1 in let long = zeros-long 16384 (c .before .before .before .before .before .before .before .before .before .before .before .before .before .before .before .before .before .before .before .before .before .before .place-words .ensures) in let same = c .before .before .before .before .before .before .before .before .before .before .before .before .before .before .stand .kept .1 .1 .1 .1 .1 .0 in search needs
 
 slice-aggregate-same-anew : tie.Need-slice-aggregate-same-anew
 slice-aggregate-same-anew c = sym (length-take-le _ _ (c .before .before .before .before .before .before .before .before .before .before .before .before .before .before .before .stand .ensures .1))

@@ -4,6 +4,7 @@ use native.Mathlib.Omega.{arith}
 use borrow.Author.Needs.{needs}
 use mathlib.Core.Path.{refl, sym}
 use lib.Seq.{length-take-le}
+use Rattle.desk.proofs.Zeros.{zeros-long}
 use Rattle.full_size.proofs.Anew.{lent-rows, drawn-full}
 use Rattle.full_size.proofs.dissolve_list.Statement.{statement}
 use Rattle.full_size.proofs.dissolve_list.Tie as tie
@@ -72,13 +73,13 @@ array-borrow-prefix-row-slot : tie.Need-array-borrow-prefix-row-slot
 array-borrow-prefix-row-slot c = search needs
 
 slice-aggregate-dissolve-10 : tie.Need-slice-aggregate-dissolve-10
-slice-aggregate-dissolve-10 c = sym (length-take-le _ _ (let few = c .before .before .before .before .before .before .before .before .before .before .before .before .before .before .before .before .before .before .before .before .rows-lent .ensures .1 in omega (arith, few, c .before .before .before .before .before .before .before .before .before .before .before .row-numbers .ensures)))
+slice-aggregate-dissolve-10 c = sym (length-take-le _ _ (let few = c .before .before .before .before .before .before .before .before .before .before .before .before .before .before .before .before .before .before .before .before .rows-lent .ensures .1 in omega (arith, few, zeros-long 65536 (c .before .before .before .before .before .before .before .before .before .before .before .row-numbers .ensures))))
 
 array-borrow-prefix-row-mark : tie.Need-array-borrow-prefix-row-mark
 array-borrow-prefix-row-mark c = search needs
 
 slice-aggregate-dissolve-11 : tie.Need-slice-aggregate-dissolve-11
-slice-aggregate-dissolve-11 c = sym (length-take-le _ _ (let few = c .before .before .before .before .before .before .before .before .before .before .before .before .before .before .before .before .before .before .before .before .before .rows-lent .ensures .1 in omega (arith, few, c .before .before .before .before .before .before .before .before .before .before .before .row-numbers2 .ensures)))
+slice-aggregate-dissolve-11 c = sym (length-take-le _ _ (let few = c .before .before .before .before .before .before .before .before .before .before .before .before .before .before .before .before .before .before .before .before .before .rows-lent .ensures .1 in omega (arith, few, zeros-long 65536 (c .before .before .before .before .before .before .before .before .before .before .before .row-numbers2 .ensures))))
 
 dissolve-requires : tie.Need-dissolve-requires
 dissolve-requires c κs = search needs
@@ -101,16 +102,16 @@ same-length-5 c = search needs
 returns : tie.Need-returns
 returns c = drawn-full _ _ _ _ _ (c .before .before .before .before .before .before .before .before .before .before .before .before .before .before .before .before .before .before .before .before .before .dissolve .ensures) (record {
   head = refl;
-  cells = c .before .before .before .before .before .before .before .before .before .before .before .before .before .before .before .before .before .before .before .before .before .before .before .before .before .before .before .before .before .before .before .before .before .before .before .before .before .before .before .before .before .before .before .before .before .before .before .place-words .ensures;
-  parent = c .before .before .before .before .before .before .before .before .before .before .before .before .before .before .before .before .before .before .before .before .before .before .before .before .before .before .before .before .before .before .before .before .before .before .before .before .before .before .before .before .before .before .before .before .before .before .place-numbers .ensures;
-  rank = c .before .before .before .before .before .before .before .before .before .before .before .before .before .before .before .before .before .before .before .before .before .before .before .before .before .before .before .before .before .before .before .before .before .before .before .before .before .before .before .before .before .before .before .before .before .place-numbers2 .ensures;
-  cell-mark = c .before .before .before .before .before .before .before .before .before .before .before .before .before .before .before .before .before .before .before .before .before .before .before .before .before .before .before .before .before .before .before .before .before .before .before .before .before .before .before .before .before .before .before .before .place-numbers3 .ensures;
-  slot-row = c .before .before .before .before .before .before .before .before .before .before .before .before .before .before .before .before .before .before .before .before .before .before .before .before .before .before .before .before .before .before .before .before .before .before .before .before .before .before .before .before .before .before .before .slot-numbers .ensures;
-  slot-cell = c .before .before .before .before .before .before .before .before .before .before .before .before .before .before .before .before .before .before .before .before .before .before .before .before .before .before .before .before .before .before .before .before .before .before .before .before .before .before .before .before .before .before .slot-numbers2 .ensures;
-  prev = c .before .before .before .before .before .before .before .before .before .before .before .before .before .before .before .before .before .before .before .before .before .before .before .before .before .before .before .before .before .before .before .before .before .before .before .before .before .before .before .before .before .slot-numbers3 .ensures;
-  next = c .before .before .before .before .before .before .before .before .before .before .before .before .before .before .before .before .before .before .before .before .before .before .before .before .before .before .before .before .before .before .before .before .before .before .before .before .before .before .before .before .slot-numbers4 .ensures;
-  row-slot = lent-rows _ _ _ (c .before .before .before .before .before .before .before .before .before .before .before .before .before .before .before .before .before .before .before .before .before .before .before .before .before .before .before .before .before .before .before .before .before .before .before .before .before .before .before .before .before .before .before .before .before .before .before .before .rows-lent .ensures) (c .before .before .before .before .before .before .before .before .before .before .before .before .before .before .before .before .before .before .before .before .before .before .before .before .before .before .before .before .before .before .before .before .before .before .before .before .before .before .before .row-numbers .ensures);
-  row-mark = lent-rows _ _ _ (c .before .before .before .before .before .before .before .before .before .before .before .before .before .before .before .before .before .before .before .before .before .before .before .before .before .before .before .before .before .before .before .before .before .before .before .before .before .before .before .before .before .before .before .before .before .before .before .before .rows-lent .ensures) (c .before .before .before .before .before .before .before .before .before .before .before .before .before .before .before .before .before .before .before .before .before .before .before .before .before .before .before .before .before .before .before .before .before .before .before .before .before .before .row-numbers2 .ensures);
+  cells = zeros-long 16384 (c .before .before .before .before .before .before .before .before .before .before .before .before .before .before .before .before .before .before .before .before .before .before .before .before .before .before .before .before .before .before .before .before .before .before .before .before .before .before .before .before .before .before .before .before .before .before .before .place-words .ensures);
+  parent = zeros-long 16384 (c .before .before .before .before .before .before .before .before .before .before .before .before .before .before .before .before .before .before .before .before .before .before .before .before .before .before .before .before .before .before .before .before .before .before .before .before .before .before .before .before .before .before .before .before .before .before .place-numbers .ensures);
+  rank = zeros-long 16384 (c .before .before .before .before .before .before .before .before .before .before .before .before .before .before .before .before .before .before .before .before .before .before .before .before .before .before .before .before .before .before .before .before .before .before .before .before .before .before .before .before .before .before .before .before .before .place-numbers2 .ensures);
+  cell-mark = zeros-long 16384 (c .before .before .before .before .before .before .before .before .before .before .before .before .before .before .before .before .before .before .before .before .before .before .before .before .before .before .before .before .before .before .before .before .before .before .before .before .before .before .before .before .before .before .before .before .place-numbers3 .ensures);
+  slot-row = zeros-long 65536 (c .before .before .before .before .before .before .before .before .before .before .before .before .before .before .before .before .before .before .before .before .before .before .before .before .before .before .before .before .before .before .before .before .before .before .before .before .before .before .before .before .before .before .before .slot-numbers .ensures);
+  slot-cell = zeros-long 65536 (c .before .before .before .before .before .before .before .before .before .before .before .before .before .before .before .before .before .before .before .before .before .before .before .before .before .before .before .before .before .before .before .before .before .before .before .before .before .before .before .before .before .before .slot-numbers2 .ensures);
+  prev = zeros-long 65536 (c .before .before .before .before .before .before .before .before .before .before .before .before .before .before .before .before .before .before .before .before .before .before .before .before .before .before .before .before .before .before .before .before .before .before .before .before .before .before .before .before .before .slot-numbers3 .ensures);
+  next = zeros-long 65536 (c .before .before .before .before .before .before .before .before .before .before .before .before .before .before .before .before .before .before .before .before .before .before .before .before .before .before .before .before .before .before .before .before .before .before .before .before .before .before .before .before .slot-numbers4 .ensures);
+  row-slot = lent-rows _ _ _ (c .before .before .before .before .before .before .before .before .before .before .before .before .before .before .before .before .before .before .before .before .before .before .before .before .before .before .before .before .before .before .before .before .before .before .before .before .before .before .before .before .before .before .before .before .before .before .before .before .rows-lent .ensures) (zeros-long 65536 (c .before .before .before .before .before .before .before .before .before .before .before .before .before .before .before .before .before .before .before .before .before .before .before .before .before .before .before .before .before .before .before .before .before .before .before .before .before .before .before .row-numbers .ensures));
+  row-mark = lent-rows _ _ _ (c .before .before .before .before .before .before .before .before .before .before .before .before .before .before .before .before .before .before .before .before .before .before .before .before .before .before .before .before .before .before .before .before .before .before .before .before .before .before .before .before .before .before .before .before .before .before .before .before .rows-lent .ensures) (zeros-long 65536 (c .before .before .before .before .before .before .before .before .before .before .before .before .before .before .before .before .before .before .before .before .before .before .before .before .before .before .before .before .before .before .before .before .before .before .before .before .before .before .row-numbers2 .ensures));
 })
 
 pub dissolve-list-spec : {M : Type 1} → statement M

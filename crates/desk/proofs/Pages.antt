@@ -1,6 +1,8 @@
 -- Reports, as they can be printed.
 --     page                            a text that was written from the front of a slice on
 --     kept, left-out                  what `in_room` leaves of a report that fits, and of one that may be cut off
+--     filled                          two reports that fill the same slice come to the same
+--     reported-in                     a report that was written and then brought into its room
 --     in-written, in-slice, within    they lie in their slice
 --     printed                         so what is printed is the whole text; or, where there is no room for it, the line that says so
 -- Assumes nothing.
@@ -40,6 +42,15 @@ pub left-out : (name text : List ℕ) (r : Report) → length text ≤ r .size �
     → record { text = after; report = record { size = n; done = false } } ≡ inRoom name (record { text = text; report = r })
 unfolding inRoom
 left-out name text r h W = rw (le-ltb (r .size) (length text) h) (page false W)
+
+pub filled : (name text : List ℕ) (r r′ : Report) → length text ≤ r .size → length text ≤ r′ .size
+    → inRoom name (record { text = text; report = r }) ≡ inRoom name (record { text = text; report = r′ })
+unfolding inRoom
+filled name text r r′ h h′ = rw (le-ltb (r .size) (length text) h, le-ltb (r′ .size) (length text) h′) refl
+
+pub reported-in : {slice after text : List ℕ} {r : Report} {done : Bool} {p : Page} (name : List ℕ) → Wrote slice 0 after (r .size) text → r .done ≡ done
+    → p ≡ inRoom name (record { text = after; report = r }) → p ≡ reportIn slice name text done
+reported-in {slice} {text = text} {r} name W e q = q ∙ ap (inRoom name) (page (r .done) W ∙ ap (written slice text) e)
 
 -- ---- within the slice
 

@@ -1,2 +1,2 @@
--- What a tool may count on where it begins.
-pub mod Readiness
+-- What is said of a command line, and what a tool may count on where it begins.
+pub mod Beginning

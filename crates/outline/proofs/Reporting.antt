@@ -1,6 +1,7 @@
 -- A zone reported.
 --     reported        what was dissolved and then written is what `report_zone` promises
 --     reported-one    its promise allows one outcome: the text, the outputs, and what is answered
+--     drawn-in        in outputs of zeros, and brought into its room, it is what `draw_zone` promises
 -- Assumes nothing.
 use Prim.Native.Nat.{ℕ}
 use mathlib.Core.Path.{_≡_, refl, sym, _∙_, ap, subst}
@@ -9,12 +10,16 @@ use mathlib.Core.List.{List}
 use lib.Ieee.{Float}
 use Rattle.scope.specs.declared.ReadOut.{ReadOut}
 use Rattle.scope.specs.Answers.{verdictOf, isAccepted}
+use Rattle.scope.specs.Table.{Table}
 use Rattle.scope.specs.Memory.{Output, output}
 use Rattle.text.specs.Text.{Wrote}
 use Rattle.report.specs.Answers.{outlineText}
-use Rattle.desk.specs.declared.words.Report.{Report}
-use Rattle.full_size.specs.Drawing.{Drawn}
-use Rattle.outline.specs.Zones.{Reported}
+use Rattle.desk.specs.declared.reports.Report.{Report}
+use Rattle.desk.specs.Outputs.{newOutput}
+use Rattle.desk.specs.Reports.{Page, inRoom}
+use Rattle.desk.proofs.Pages.{reported-in}
+use Rattle.full_size.specs.Drawing.{Drawn, drawing}
+use Rattle.outline.specs.Zones.{Reported, zoneIn}
 
 module _ {table list lines edges : List ℕ} {byRow : Bool} {d : Drawn} {answer : ReadOut} {start size group : List ℕ} {area : List Float} {rows : List ℕ} where
   pub reported : record { answer = answer; out = output start size group area rows } ≡ d
@@ -32,3 +37,10 @@ pub reported-one : (table list lines edges : List ℕ) (byRow : Bool) (d : Drawn
     → (after ≡ after′) × (o ≡ o′) × (r ≡ r′)
 reported-one table list lines edges byRow d before {r = r} {r′ = r′} p q =
     (p .text .bytes ∙ sym (q .text .bytes), p .outputs ∙ sym (q .outputs), same-report r r′ (p .text .place ∙ sym (q .text .place)) (p .answers ∙ sym (q .answers)))
+
+pub drawn-in : (table list lines edges : List ℕ) (byRow : Bool) (t : Table) (mode : ℕ) (cells : List ℕ) {o o′ : Output} {slice after : List ℕ} {r : Report} {p : Page}
+    → o ≡ newOutput → Reported table list lines edges byRow (drawing t mode cells o) slice after o′ r → p ≡ inRoom list (record { text = after; report = r })
+    → p ≡ zoneIn slice table list lines edges byRow (drawing t mode cells newOutput)
+drawn-in table list lines edges byRow t mode cells {o′ = o′} {slice} {after} {r} e R q =
+    let R₀ = subst (λ (x : Output). Reported table list lines edges byRow (drawing t mode cells x) slice after o′ r) e R in
+    reported-in list (R₀ .text) (R₀ .answers) q

@@ -8,7 +8,8 @@ use Rattle.scope.specs.Answers.{verdictOf, isAccepted}
 use Rattle.scope.specs.Memory.{Output}
 use Rattle.text.specs.Text.{Wrote}
 use Rattle.report.specs.Answers.{outlineText}
-use Rattle.desk.specs.declared.words.Report.{Report}
+use Rattle.desk.specs.declared.reports.Report.{Report}
+use Rattle.desk.specs.Reports.{Page, reportIn}
 use Rattle.full_size.specs.Drawing.{Drawn}
 
 -- the names of the two files, the lines of the cells, the table's edges, and whether edges are named by their rows
@@ -21,3 +22,7 @@ pub record Reported (table list lines edges : List ℕ) (byRow : Bool) (d : Draw
   pub text : Wrote before 0 after (r .size) (zoneText table list lines edges byRow d)
   pub outputs : out ≡ d .out
   pub answers : r .done ≡ isAccepted (verdictOf (d .answer))
+
+-- the same in a slice, as it can be printed
+abbrev pub zoneIn : List ℕ → List ℕ → List ℕ → List ℕ → List ℕ → Bool → Drawn → Page
+zoneIn slice table list lines edges byRow d = reportIn slice list (zoneText table list lines edges byRow d) (isAccepted (verdictOf (d .answer)))

@@ -1,5 +1,5 @@
 // outline TABLE CELLS: dissolves a list of cells and prints its outline: a summary, then each polygon with its rings. All that can be
-// stated of it is in the functions called, of which `report_zone` is the last: here they are put in a row.
+// stated of it is in the functions called, of which `draw_zone` is the last: here files are read and its report is printed.
 // Its arrays take 5.7 MB of stack (desk::arrays has them one by one), and with the library's own the program takes 6.6 MB.
 mod zone;
 
@@ -8,11 +8,8 @@ use arguments::begin;
 use command_line::line::Line;
 use command_line::tools::Tool;
 use desk::Loaded;
-use desk::arrays::edge_numbers;
 use desk::arrays::place_lines;
 use desk::arrays::place_words;
-use desk::arrays::ring_floats;
-use desk::arrays::ring_numbers;
 use desk::arrays::row_floats;
 use desk::arrays::row_numbers;
 use desk::arrays::row_words;
@@ -20,47 +17,9 @@ use desk::arrays::text_bytes;
 use desk::load_cells;
 use desk::load_table;
 use desk::words::say_report;
-use zone::report_zone;
+use zone::draw_zone;
 
-// The outline of the cells over the table, in outputs of full size.
-fn show(
-    table_name: &[u8],
-    list_name: &[u8],
-    text: &mut [u8],
-    edges: &[u64],
-    reverse: &[u32],
-    area: &[f64],
-    cells: &[u64],
-    lines: &[usize],
-    mode: usize,
-    by_row: bool,
-) {
-    let mut start = ring_numbers();
-    let mut size = ring_numbers();
-    let mut group = ring_numbers();
-    let mut ring_area = ring_floats();
-    let mut ring_edges = edge_numbers();
-    let report = report_zone(
-        table_name,
-        list_name,
-        text,
-        edges,
-        reverse,
-        area,
-        cells,
-        lines,
-        &mut start,
-        &mut size,
-        &mut group,
-        &mut ring_area,
-        &mut ring_edges,
-        mode,
-        by_row,
-    );
-    say_report(text, report);
-}
-
-// Loads the two files, and goes on where both can be taken.
+// Loads the two files and, where both can be taken, prints the outline of the cells over the table.
 fn outline(table_name: &[u8], list_name: &[u8], mode: usize, by_row: bool) {
     let mut text = text_bytes();
     let mut edges = row_words();
@@ -75,7 +34,7 @@ fn outline(table_name: &[u8], list_name: &[u8], mode: usize, by_row: bool) {
     let Loaded::Count(count) = load_cells(list_name, &mut text, &mut cells, &mut lines) else {
         return;
     };
-    show(
+    let report = draw_zone(
         table_name,
         list_name,
         &mut text,
@@ -87,6 +46,7 @@ fn outline(table_name: &[u8], list_name: &[u8], mode: usize, by_row: bool) {
         mode,
         by_row,
     );
+    say_report(&text, report);
 }
 
 fn run(line: Line) {

@@ -1,15 +1,22 @@
 // A list of cells dissolved in memory of full size, and the report of what came of it.
 use answers::is_done;
-use desk::words::Report;
+use desk::arrays::edge_numbers;
+use desk::arrays::ring_floats;
+use desk::arrays::ring_numbers;
+use desk::reports::Report;
+use desk::reports::in_room;
 use full_size::dissolve_list;
 use report::zones::put_outline;
+ghost use mathlib.Core.Path.{_≡_};
 ghost use Rattle.scope.specs.Table.{table};
 ghost use Rattle.scope.specs.Memory.{output};
 ghost use Rattle.full_size.specs.Drawing.{drawing};
-ghost use Rattle.outline.specs.Zones.{Reported};
+ghost use Rattle.desk.specs.Outputs.{newOutput};
+ghost use Rattle.desk.specs.Reports.{Page};
+ghost use Rattle.outline.specs.Zones.{Reported, zoneIn};
 
 // `lines` are those of the cells in their file; `by_row` has the edges named by their rows.
-pub fn report_zone(
+fn report_zone(
     table_name: &[u8],
     list_name: &[u8],
     text: &mut [u8],
@@ -61,4 +68,45 @@ pub fn report_zone(
         size: end,
         done: is_done(answer),
     }
+}
+
+// The same in new outputs of full size, as it can be printed.
+pub fn draw_zone(
+    table_name: &[u8],
+    list_name: &[u8],
+    text: &mut [u8],
+    edges: &[u64],
+    reverse: &[u32],
+    area: &[f64],
+    cells: &[u64],
+    lines: &[usize],
+    mode: usize,
+    by_row: bool,
+) -> Report
+    ensures { λ r. ⌜ record { text = now (text .exit); report = r }
+        ≡ zoneIn (now (text .entry)) (now («table_name» .entry)) (now («list_name» .entry)) (now (lines .entry)) (now (edges .entry)) «by_row» (drawing (table (now (edges .entry)) (now (reverse .entry)) (now (area .entry))) mode (now (cells .entry)) newOutput) ⌝ }
+{
+    let mut start = ring_numbers();
+    let mut size = ring_numbers();
+    let mut group = ring_numbers();
+    let mut ring_area = ring_floats();
+    let mut ring_edges = edge_numbers();
+    let report = report_zone(
+        table_name,
+        list_name,
+        text,
+        edges,
+        reverse,
+        area,
+        cells,
+        lines,
+        &mut start,
+        &mut size,
+        &mut group,
+        &mut ring_area,
+        &mut ring_edges,
+        mode,
+        by_row,
+    );
+    in_room(text, report, list_name)
 }

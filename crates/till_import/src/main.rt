@@ -1,43 +1,25 @@
 // till_import TABLE CELLS...: zones for the tills, one after the other, each into a fresh state: a line with its answer, then each ring as
 // a list. All that can be stated of it is in the functions called: the command line, files as bytes, the table's check and the lines of a
-// zone (`zone`). Here they are put in a row.
+// zone (`zone`). Here files are read and reports are printed.
 mod zone;
 
 use arguments::Begun;
 use arguments::begin;
 use command_line::tools::Tool;
 use desk::Loaded;
-use desk::arrays::edge_numbers;
 use desk::arrays::place_lines;
 use desk::arrays::place_words;
-use desk::arrays::ring_floats;
-use desk::arrays::ring_numbers;
 use desk::arrays::row_floats;
 use desk::arrays::row_numbers;
 use desk::arrays::row_words;
 use desk::arrays::text_bytes;
 use desk::load_cells;
 use desk::load_table;
-use desk::words::complain_of;
-use desk::words::complain_text;
-use desk::words::say_text;
-use zone::import;
+use desk::words::say_report;
+use zone::import_list;
 use zone::tell_table;
-use zone_lines::Told;
 
-fn say_told(text: &[u8], list: &[u8], told: Told) {
-    match told {
-        Told::Answer(size) => say_text(text, size),
-        Told::Refusal(size) => complain_text(text, size),
-        Told::TooLong => complain_of(
-            b"",
-            list,
-            b": the lines of this zone are longer than the room for them\n",
-        ),
-    }
-}
-
-// Imports the list in a file, into new outputs, which are long enough for every table.
+// Imports the list in a file.
 fn import_file(
     text: &mut [u8],
     table: &[u8],
@@ -48,15 +30,10 @@ fn import_file(
 ) {
     let mut cells = place_words();
     let mut lines = place_lines();
-    let mut start = ring_numbers();
-    let mut size = ring_numbers();
-    let mut group = ring_numbers();
-    let mut ring_area = ring_floats();
-    let mut ring_edges = edge_numbers();
     let Loaded::Count(count) = load_cells(list, text, &mut cells, &mut lines) else {
         return;
     };
-    let told = import(
+    let report = import_list(
         text,
         table,
         list,
@@ -65,13 +42,8 @@ fn import_file(
         reverse,
         area,
         &cells[..count],
-        &mut start,
-        &mut size,
-        &mut group,
-        &mut ring_area,
-        &mut ring_edges,
     );
-    say_told(text, list, told);
+    say_report(text, report);
 }
 
 // Imports the list that word number k of the command line names.
@@ -118,7 +90,7 @@ fn import_over(
     if report.done {
         import_words(text, table, edges, reverse, area, first);
     } else {
-        complain_text(text, report.size);
+        say_report(text, report);
     }
 }
 

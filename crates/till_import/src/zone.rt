@@ -1,28 +1,27 @@
 // The table's check told in words, and a zone imported: its list dissolved in a fresh state, naming no mode, and told as lines.
-use desk::words::Report;
+use desk::arrays::edge_numbers;
+use desk::arrays::ring_floats;
+use desk::arrays::ring_numbers;
+use desk::reports::Report;
+use desk::reports::in_room;
 use edge_table::check_table;
 use full_size::dissolve_list;
 use refusal_text::put_refusal;
 use scope::Verdict;
 use zone_lines::Told;
 use zone_lines::tell_zone;
+ghost use mathlib.Core.Path.{_≡_};
 ghost use Rattle.edge_table.specs.Checks.{checked};
 ghost use Rattle.scope.specs.Table.{table as tableOf};
 ghost use Rattle.scope.specs.Memory.{output};
 ghost use Rattle.full_size.specs.Drawing.{drawing};
-ghost use Rattle.till_import.specs.Imports.{noMode, Imported, TableTold};
+ghost use Rattle.desk.specs.Outputs.{newOutput};
+ghost use Rattle.desk.specs.Reports.{Page};
+ghost use Rattle.till_import.specs.Imports.{VerdictTold, tableIn, noMode, Imported, reportOf, zoneIn};
 
-// Whether the table keeps the rules; where it does not, the refusal is told.
-pub fn tell_table(
-    text: &mut [u8],
-    table: &[u8],
-    edges: &[u64],
-    reverse: &[u32],
-    area: &[f64],
-) -> Report
-    ensures { λ r. ⌜ TableTold (now (table .entry)) (checked (tableOf (now (edges .entry)) (now (reverse .entry)) (now (area .entry)))) (now (text .entry)) (now (text .exit)) r ⌝ }
+fn tell_verdict(text: &mut [u8], table: &[u8], verdict: Verdict) -> Report
+    ensures { λ r. ⌜ VerdictTold (now (table .entry)) verdict (now (text .entry)) (now (text .exit)) r ⌝ }
 {
-    let verdict = check_table(edges, reverse, area);
     match verdict {
         Verdict::Accepted => Report {
             size: 0,
@@ -35,11 +34,26 @@ pub fn tell_table(
     }
 }
 
+// Whether the table keeps the rules; where it does not, the refusal is told.
+pub fn tell_table(
+    text: &mut [u8],
+    table: &[u8],
+    edges: &[u64],
+    reverse: &[u32],
+    area: &[f64],
+) -> Report
+    ensures { λ r. ⌜ record { text = now (text .exit); report = r } ≡ tableIn (now (text .entry)) (now (table .entry)) (checked (tableOf (now (edges .entry)) (now (reverse .entry)) (now (area .entry)))) ⌝ }
+{
+    let verdict = check_table(edges, reverse, area);
+    let report = tell_verdict(text, table, verdict);
+    in_room(text, report, table)
+}
+
 // Mode 2 names none.
 const NO_MODE: usize = 2;
 
 // Dissolves a list and tells what came of it: the names of the two files, the line of each cell, the table, the cells, the outputs.
-pub fn import(
+fn import(
     text: &mut [u8],
     table: &[u8],
     list: &[u8],
@@ -84,4 +98,56 @@ pub fn import(
         ring_area,
         ring_edges,
     )
+}
+
+// Lines that were not told, since they may be cut off, are as long as their room.
+fn report_of(told: Told, room: usize) -> Report
+    ensures { λ r. ⌜ r ≡ reportOf told room ⌝ }
+{
+    match told {
+        Told::Answer(size) => Report { size, done: true },
+        Told::Refusal(size) => Report { size, done: false },
+        Told::TooLong => Report {
+            size: room,
+            done: false,
+        },
+    }
+}
+
+// Imports a list into new outputs, which are long enough for every table, and tells what came of it, as it can be printed.
+pub fn import_list(
+    text: &mut [u8],
+    table: &[u8],
+    list: &[u8],
+    lines: &[usize],
+    edges: &[u64],
+    reverse: &[u32],
+    area: &[f64],
+    cells: &[u64],
+) -> Report
+    ensures { λ r. ⌜ record { text = now (text .exit); report = r }
+        ≡ zoneIn (now (text .entry)) (now (table .entry)) (now (list .entry)) (now (lines .entry)) (now (edges .entry)) (drawing (tableOf (now (edges .entry)) (now (reverse .entry)) (now (area .entry))) noMode (now (cells .entry)) newOutput) ⌝ }
+{
+    let mut start = ring_numbers();
+    let mut size = ring_numbers();
+    let mut group = ring_numbers();
+    let mut ring_area = ring_floats();
+    let mut ring_edges = edge_numbers();
+    let told = import(
+        text,
+        table,
+        list,
+        lines,
+        edges,
+        reverse,
+        area,
+        cells,
+        &mut start,
+        &mut size,
+        &mut group,
+        &mut ring_area,
+        &mut ring_edges,
+    );
+    let report = report_of(told, text.len());
+    in_room(text, report, list)
 }

@@ -12,7 +12,8 @@ use Rattle.scope.specs.Memory.{Output}
 use Rattle.text.specs.Text.{Wrote}
 use Rattle.refusal_text.specs.Refusals.{refusalText}
 use Rattle.audit.specs.Summary.{auditText}
-use Rattle.desk.specs.declared.words.Report.{Report}
+use Rattle.desk.specs.declared.reports.Report.{Report}
+use Rattle.desk.specs.Reports.{Page, reportIn}
 use Rattle.feed_audit.specs.Audit.{Audit}
 
 -- the table's name, how many cells were offered, and what the audit found
@@ -30,3 +31,7 @@ pub record Reported (table : List ℕ) (offered : ℕ) (a : Audit) (before after
   pub told : Told (auditedText table offered (a .opened) (a .counts) (a .answer) (a .same) (a .visits)) (a .opened) before after r
   pub standing : out ≡ a .out
   pub afresh : anew ≡ a .anew
+
+-- the same in a slice, as it can be printed: the names of table and feed, how many cells were offered, and what the audit found
+abbrev pub auditIn : List ℕ → List ℕ → List ℕ → ℕ → Audit → Page
+auditIn slice table feed offered a = reportIn slice feed (auditedText table offered (a .opened) (a .counts) (a .answer) (a .same) (a .visits)) (isAccepted (a .opened))

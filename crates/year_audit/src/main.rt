@@ -1,6 +1,6 @@
 // year_audit TABLE FEED: offers the cells of a feed one by one to a standing state and prints what came of it: how many were accepted and
 // refused, what the replays would have drawn, and whether what stands is what is dissolved afresh. All that can be stated of it is in the
-// functions called: here they are put in a row.
+// functions called: here files are read and the report is printed.
 mod year;
 
 use arguments::Begun;
@@ -15,6 +15,7 @@ use desk::arrays::row_words;
 use desk::arrays::text_bytes;
 use desk::load_cells;
 use desk::load_table;
+use desk::words::say_report;
 use year::audit_feed;
 ghost use Prim.Native.Nat.{_≤_};
 ghost use lib.ListN.{length};
@@ -37,7 +38,7 @@ fn load_feed(path: &[u8], cells: &mut [u64]) -> Loaded
     load_cells(path, &mut text, cells, &mut lines)
 }
 
-// Loads the two files, and goes on where both can be taken.
+// Loads the two files and, where both can be taken, prints what came of the audit.
 fn audit_files(table: &[u8], feed: &[u8]) {
     let mut edges = row_words();
     let mut reverse = row_numbers();
@@ -49,13 +50,17 @@ fn audit_files(table: &[u8], feed: &[u8]) {
     let Loaded::Count(count) = load_feed(feed, &mut cells) else {
         return;
     };
-    audit_feed(
+    let mut text = io::large_buffer();
+    let report = audit_feed(
         table,
+        feed,
+        &mut text,
         &edges[..rows],
         &reverse[..rows],
         &area[..rows],
         &cells[..count],
     );
+    say_report(&text, report);
 }
 
 fn main() {

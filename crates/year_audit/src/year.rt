@@ -3,19 +3,22 @@ use audit::summary::put_audit;
 use desk::arrays::edge_numbers;
 use desk::arrays::ring_floats;
 use desk::arrays::ring_numbers;
-use desk::words::Report;
-use desk::words::say_report;
+use desk::reports::Report;
+use desk::reports::in_room;
 use feed_audit::audit;
 use refusal_text::put_refusal;
 use scope::ReadOut;
 use scope::Verdict;
+ghost use mathlib.Core.Path.{_≡_};
 ghost use Prim.Native.Nat.{_≤_, _<_, _^_};
 ghost use lib.ListN.{length};
 ghost use Rattle.scope.specs.Table.{table};
 ghost use Rattle.scope.specs.Memory.{output};
 ghost use Rattle.audit.specs.Feed.{pointsUnchecked};
 ghost use Rattle.feed_audit.specs.Audit.{auditing};
-ghost use Rattle.year_audit.specs.Audits.{auditedText, Told, Reported};
+ghost use Rattle.desk.specs.Outputs.{newOutput};
+ghost use Rattle.desk.specs.Reports.{Page};
+ghost use Rattle.year_audit.specs.Audits.{auditedText, Told, Reported, auditIn};
 
 // What came of an audit; or that the table was refused, and at which row.
 fn put_audited(
@@ -102,11 +105,20 @@ fn report_audit(
     )
 }
 
-// Audits the feed in outputs of full size, and says what came of it.
-pub(crate) fn audit_feed(table: &[u8], edges: &[u64], reverse: &[u32], area: &[f64], feed: &[u64])
+// The same in new outputs of full size, as it can be printed.
+pub(crate) fn audit_feed(
+    table_name: &[u8],
+    feed_name: &[u8],
+    text: &mut [u8],
+    edges: &[u64],
+    reverse: &[u32],
+    area: &[f64],
+    feed: &[u64],
+) -> Report
     requires { ⌜ length (now feed) ≤ 65536 ⌝ }
+    ensures { λ r. ⌜ record { text = now (text .exit); report = r }
+        ≡ auditIn (now (text .entry)) (now («table_name» .entry)) (now («feed_name» .entry)) (length (now (feed .entry))) (auditing (table (now (edges .entry)) (now (reverse .entry)) (now (area .entry))) (now (feed .entry)) newOutput newOutput) ⌝ }
 {
-    let mut text = io::large_buffer();
     let mut start = ring_numbers();
     let mut size = ring_numbers();
     let mut group = ring_numbers();
@@ -118,8 +130,8 @@ pub(crate) fn audit_feed(table: &[u8], edges: &[u64], reverse: &[u32], area: &[f
     let mut anew_area = ring_floats();
     let mut anew_edges = edge_numbers();
     let report = report_audit(
-        table,
-        &mut text,
+        table_name,
+        text,
         edges,
         reverse,
         area,
@@ -135,5 +147,5 @@ pub(crate) fn audit_feed(table: &[u8], edges: &[u64], reverse: &[u32], area: &[f
         &mut anew_area,
         &mut anew_edges,
     );
-    say_report(&text, report);
+    in_room(text, report, feed_name)
 }

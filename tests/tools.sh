@@ -165,11 +165,23 @@ for tool in outline till_import year_audit; do
   refused "$work/word.cells line 2, byte 1: a line has one cell, 1 to 16 hexadecimal digits, with or without 0x" bin/$tool "$table" "$work/word.cells"
 done
 
-# ---- an environment of nearly 1 MB, which lies on the stack beside a tool's memory
+# ---- little stack: an environment of nearly 1 MB takes none of it, and arguments that could take more than is left are refused
 
 large=$(head -c 120000 /dev/zero | tr '\0' x)
-tells 'points over 0' env A="$large" B="$large" C="$large" D="$large" E="$large" F="$large" G="$large" H="$large" bin/year_audit "$table" samples/year.feed
-tells 'polygons 2' env A="$large" B="$large" C="$large" D="$large" E="$large" F="$large" G="$large" H="$large" bin/outline "$table" "$zone"
+
+# narrow COMMAND...: with 8 MB of stack, and no more to be had
+narrow() {
+  (ulimit -S -s 8192 && ulimit -H -s 8192 && "$@")
+}
+
+for stack in env narrow; do
+  tells 'points over 0' $stack env A="$large" B="$large" C="$large" D="$large" E="$large" F="$large" G="$large" H="$large" bin/year_audit "$table" samples/year.feed
+  tells 'polygons 2' $stack env A="$large" B="$large" C="$large" D="$large" E="$large" F="$large" G="$large" H="$large" bin/outline "$table" "$zone"
+done
+tells 'usage: year_audit TABLE FEED' narrow bin/year_audit $(seq 1 36000) --help
+tells 'usage: year_audit TABLE FEED' bin/year_audit $(seq 1 60000) --help
+run narrow bin/year_audit $(seq 1 60000) --help
+[ "$status" -eq 2 ] && [ ! -s "$work/out" ] && [ "$(cat "$work/err")" = 'year_audit: its arguments take 828909 bytes of the stack, and ulimit -s leaves 524288' ] || fault 'year_audit with more arguments than there is stack for'
 
 # ---- a file that may not be read. Nothing stops root, so there another user runs copies of the tools.
 

@@ -1,4 +1,4 @@
--- `outline::outline` meets its contract. What is lent to `show` are the rows and the cells that were loaded.
+-- `outline::outline` meets its contract. What is lent to `draw_zone` are the rows and the cells that were loaded.
 -- Assumes nothing.
 use native.Mathlib.Omega.{arith}
 use borrow.Author.Needs.{needs}
@@ -6,6 +6,7 @@ use mathlib.Core.Path.{sym}
 use lib.Seq.{length-take-le}
 use Rattle.desk.proofs.Fits.{rows-few, cells-few}
 use Rattle.desk.proofs.Within.{loaded}
+use Rattle.desk.proofs.Pages.{in-slice, within}
 use Rattle.outline.proofs.outline.Statement.{statement}
 use Rattle.outline.proofs.outline.Tie as tie
 
@@ -72,41 +73,47 @@ enum-told-2 c = search needs
 returns-2 : tie.Need-returns-2
 returns-2 c = search needs
 
-slice-aggregate-show : tie.Need-slice-aggregate-show
-slice-aggregate-show c = search needs
+slice-aggregate-draw-zone : tie.Need-slice-aggregate-draw-zone
+slice-aggregate-draw-zone c = search needs
 
 array-share-prefix-edges : tie.Need-array-share-prefix-edges
 array-share-prefix-edges c = let load = c .before .before .before .before .before .before .before .before .before .before .before .before .before .before .before .before .before .before .load-table in omega (arith, loaded (c .before .before .before .before .before .before .before .before .before .before .before .before .rows .given .1) (rows-few (load .ensures) .0), load .kept .1 .1 .0)
 
-slice-aggregate-show-2 : tie.Need-slice-aggregate-show-2
-slice-aggregate-show-2 c = sym (length-take-le _ _ (let load = c .before .before .before .before .before .before .before .before .before .before .before .before .before .before .before .before .before .before .before .load-table in omega (arith, loaded (c .before .before .before .before .before .before .before .before .before .before .before .before .before .rows .given .1) (rows-few (load .ensures) .0), load .kept .1 .1 .0)))
+slice-aggregate-draw-zone-2 : tie.Need-slice-aggregate-draw-zone-2
+slice-aggregate-draw-zone-2 c = sym (length-take-le _ _ (let load = c .before .before .before .before .before .before .before .before .before .before .before .before .before .before .before .before .before .before .before .load-table in omega (arith, loaded (c .before .before .before .before .before .before .before .before .before .before .before .before .before .rows .given .1) (rows-few (load .ensures) .0), load .kept .1 .1 .0)))
 
 array-share-prefix-reverse : tie.Need-array-share-prefix-reverse
 array-share-prefix-reverse c = let load = c .before .before .before .before .before .before .before .before .before .before .before .before .before .before .before .before .before .before .before .load-table in omega (arith, loaded (c .before .before .before .before .before .before .before .before .before .before .before .before .before .rows .given .1) (rows-few (load .ensures) .1), load .kept .1 .1 .1 .0)
 
-slice-aggregate-show-3 : tie.Need-slice-aggregate-show-3
-slice-aggregate-show-3 c = sym (length-take-le _ _ (let load = c .before .before .before .before .before .before .before .before .before .before .before .before .before .before .before .before .before .before .before .before .load-table in omega (arith, loaded (c .before .before .before .before .before .before .before .before .before .before .before .before .before .before .rows .given .1) (rows-few (load .ensures) .1), load .kept .1 .1 .1 .0)))
+slice-aggregate-draw-zone-3 : tie.Need-slice-aggregate-draw-zone-3
+slice-aggregate-draw-zone-3 c = sym (length-take-le _ _ (let load = c .before .before .before .before .before .before .before .before .before .before .before .before .before .before .before .before .before .before .before .before .load-table in omega (arith, loaded (c .before .before .before .before .before .before .before .before .before .before .before .before .before .before .rows .given .1) (rows-few (load .ensures) .1), load .kept .1 .1 .1 .0)))
 
 array-share-prefix-area : tie.Need-array-share-prefix-area
 array-share-prefix-area c = let load = c .before .before .before .before .before .before .before .before .before .before .before .before .before .before .before .before .before .before .before .before .load-table in omega (arith, loaded (c .before .before .before .before .before .before .before .before .before .before .before .before .before .before .rows .given .1) (rows-few (load .ensures) .2), load .kept .1 .1 .1 .1 .0)
 
-slice-aggregate-show-4 : tie.Need-slice-aggregate-show-4
-slice-aggregate-show-4 c = sym (length-take-le _ _ (let load = c .before .before .before .before .before .before .before .before .before .before .before .before .before .before .before .before .before .before .before .before .before .load-table in omega (arith, loaded (c .before .before .before .before .before .before .before .before .before .before .before .before .before .before .before .rows .given .1) (rows-few (load .ensures) .2), load .kept .1 .1 .1 .1 .0)))
+slice-aggregate-draw-zone-4 : tie.Need-slice-aggregate-draw-zone-4
+slice-aggregate-draw-zone-4 c = sym (length-take-le _ _ (let load = c .before .before .before .before .before .before .before .before .before .before .before .before .before .before .before .before .before .before .before .before .before .load-table in omega (arith, loaded (c .before .before .before .before .before .before .before .before .before .before .before .before .before .before .before .rows .given .1) (rows-few (load .ensures) .2), load .kept .1 .1 .1 .1 .0)))
 
 array-share-prefix-cells : tie.Need-array-share-prefix-cells
 array-share-prefix-cells c = let load = c .before .before .before .before .before .before .before .before .before .before .load-cells in omega (arith, loaded (c .before .before .before .before .before .count .given .1) (cells-few (load .ensures) .0), load .kept .1 .1 .0)
 
-slice-aggregate-show-5 : tie.Need-slice-aggregate-show-5
-slice-aggregate-show-5 c = sym (length-take-le _ _ (let load = c .before .before .before .before .before .before .before .before .before .before .before .load-cells in omega (arith, loaded (c .before .before .before .before .before .before .count .given .1) (cells-few (load .ensures) .0), load .kept .1 .1 .0)))
+slice-aggregate-draw-zone-5 : tie.Need-slice-aggregate-draw-zone-5
+slice-aggregate-draw-zone-5 c = sym (length-take-le _ _ (let load = c .before .before .before .before .before .before .before .before .before .before .before .load-cells in omega (arith, loaded (c .before .before .before .before .before .before .count .given .1) (cells-few (load .ensures) .0), load .kept .1 .1 .0)))
 
 array-share-prefix-lines : tie.Need-array-share-prefix-lines
 array-share-prefix-lines c = let load = c .before .before .before .before .before .before .before .before .before .before .before .load-cells in omega (arith, loaded (c .before .before .before .before .before .before .count .given .1) (cells-few (load .ensures) .1), load .kept .1 .1 .1 .0)
 
-slice-aggregate-show-6 : tie.Need-slice-aggregate-show-6
-slice-aggregate-show-6 c = sym (length-take-le _ _ (let load = c .before .before .before .before .before .before .before .before .before .before .before .before .load-cells in omega (arith, loaded (c .before .before .before .before .before .before .before .count .given .1) (cells-few (load .ensures) .1), load .kept .1 .1 .1 .0)))
+slice-aggregate-draw-zone-6 : tie.Need-slice-aggregate-draw-zone-6
+slice-aggregate-draw-zone-6 c = sym (length-take-le _ _ (let load = c .before .before .before .before .before .before .before .before .before .before .before .before .load-cells in omega (arith, loaded (c .before .before .before .before .before .before .before .count .given .1) (cells-few (load .ensures) .1), load .kept .1 .1 .1 .0)))
 
-show-requires : tie.Need-show-requires
-show-requires c κs = search needs
+draw-zone-requires : tie.Need-draw-zone-requires
+draw-zone-requires c κs = search needs
+
+slice-aggregate-say-report : tie.Need-slice-aggregate-say-report
+slice-aggregate-say-report c = search needs
+
+say-report-requires : tie.Need-say-report-requires
+say-report-requires c κs = within (c .before .before .draw-zone .ensures) (in-slice _ _)
 
 returns-3 : tie.Need-returns-3
 returns-3 c = search needs
@@ -136,16 +143,18 @@ outline-spec =
     enum-known-count
     enum-told-2
     returns-2
-    slice-aggregate-show
+    slice-aggregate-draw-zone
     array-share-prefix-edges
-    slice-aggregate-show-2
+    slice-aggregate-draw-zone-2
     array-share-prefix-reverse
-    slice-aggregate-show-3
+    slice-aggregate-draw-zone-3
     array-share-prefix-area
-    slice-aggregate-show-4
+    slice-aggregate-draw-zone-4
     array-share-prefix-cells
-    slice-aggregate-show-5
+    slice-aggregate-draw-zone-5
     array-share-prefix-lines
-    slice-aggregate-show-6
-    show-requires
+    slice-aggregate-draw-zone-6
+    draw-zone-requires
+    slice-aggregate-say-report
+    say-report-requires
     returns-3)

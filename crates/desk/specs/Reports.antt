@@ -8,11 +8,11 @@ use mathlib.Core.List.{List, _++_}
 use lib.Dec.{ltb}
 use lib.ListN.{length}
 use lib.Seq.{sets}
-use Rattle.text.specs.Text.{ascii}
+use Rattle.text.specs.Text.{ascii, shown}
 use Rattle.desk.specs.declared.reports.Report.{Report}
 
 abbrev pub leftOutText : List ℕ → List ℕ
-leftOutText name = name ++ ascii ": what there is to say of it is longer than the room for it, and is left out\n"
+leftOutText name = shown name ++ ascii ": what there is to say of it is longer than the room for it, and is left out\n"
 
 -- a slice, and the report at its front
 pub record Page : Type 0 where

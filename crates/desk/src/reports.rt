@@ -1,5 +1,6 @@
 // Reports: a text at the front of a lent slice, and what is said of one that does not fit there.
 use text::put_bytes;
+use text::put_shown;
 ghost use mathlib.Core.Path.{_≡_};
 ghost use Rattle.desk.specs.Reports.{Page, inRoom};
 
@@ -16,7 +17,7 @@ pub fn in_room(text: &mut [u8], report: Report, name: &[u8]) -> Report
     if report.size < text.len() {
         return report;
     }
-    let named = put_bytes(text, 0, name);
+    let named = put_shown(text, 0, name);
     let size = put_bytes(
         text,
         named,

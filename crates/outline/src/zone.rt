@@ -8,6 +8,7 @@ use desk::reports::in_room;
 use full_size::dissolve_list;
 use report::zones::put_outline;
 ghost use mathlib.Core.Path.{_≡_};
+ghost use lib.ListN.{length};
 ghost use Rattle.scope.specs.Table.{table};
 ghost use Rattle.scope.specs.Memory.{output};
 ghost use Rattle.full_size.specs.Drawing.{drawing};
@@ -33,7 +34,7 @@ fn report_zone(
     mode: usize,
     by_row: bool,
 ) -> Report
-    ensures { λ r. ⌜ Reported (now («table_name» .entry)) (now («list_name» .entry)) (now (lines .entry)) (now (edges .entry)) «by_row»
+    ensures { λ r. ⌜ Reported (now («table_name» .entry)) (now («list_name» .entry)) (length (now (cells .entry))) (now (lines .entry)) (now (edges .entry)) «by_row»
         (drawing (table (now (edges .entry)) (now (reverse .entry)) (now (area .entry))) mode (now (cells .entry)) (output (now (start .entry)) (now (size .entry)) (now (group .entry)) (now («ring_area» .entry)) (now («ring_edges» .entry))))
         (now (text .entry)) (now (text .exit)) (output (now (start .exit)) (now (size .exit)) (now (group .exit)) (now («ring_area» .exit)) (now («ring_edges» .exit))) r ⌝ }
 {
@@ -54,6 +55,7 @@ fn report_zone(
         0,
         table_name,
         list_name,
+        cells.len(),
         lines,
         edges,
         by_row,
@@ -84,7 +86,7 @@ pub fn draw_zone(
     by_row: bool,
 ) -> Report
     ensures { λ r. ⌜ record { text = now (text .exit); report = r }
-        ≡ zoneIn (now (text .entry)) (now («table_name» .entry)) (now («list_name» .entry)) (now (lines .entry)) (now (edges .entry)) «by_row» (drawing (table (now (edges .entry)) (now (reverse .entry)) (now (area .entry))) mode (now (cells .entry)) newOutput) ⌝ }
+        ≡ zoneIn (now (text .entry)) (now («table_name» .entry)) (now («list_name» .entry)) (length (now (cells .entry))) (now (lines .entry)) (now (edges .entry)) «by_row» (drawing (table (now (edges .entry)) (now (reverse .entry)) (now (area .entry))) mode (now (cells .entry)) newOutput) ⌝ }
 {
     let mut start = ring_numbers();
     let mut size = ring_numbers();

@@ -56,18 +56,18 @@ table-in {table} {slice} {after} {r = r} e T q =
     let told = subst (λ (v : Verdict). VerdictTold table v slice after r) e T in
     reported-in table (told .text) (told .passes) q
 
-pub imported : {table list lines edges : List ℕ} {zone : Drawn} {answer : ReadOut} {o : Output} {before after : List ℕ} {told : Told}
-    → record { answer = answer; out = o } ≡ zone → Tells table list lines edges answer o before after told → Imported table list lines edges zone o before after told
-imported {table} {list} {lines} {edges} {before = before} {after = after} {told = told} e t = record {
+pub imported : {table list : List ℕ} {cells : ℕ} {lines edges : List ℕ} {zone : Drawn} {answer : ReadOut} {o : Output} {before after : List ℕ} {told : Told}
+    → record { answer = answer; out = o } ≡ zone → Tells table list cells lines edges answer o before after told → Imported table list cells lines edges zone o before after told
+imported {table} {list} {cells} {lines} {edges} {before = before} {after = after} {told = told} e t = record {
   out = ap (λ (d : Drawn). d .out) e;
-  tells = subst (λ (d : Drawn). Tells table list lines edges (d .answer) (d .out) before after told) e t;
+  tells = subst (λ (d : Drawn). Tells table list cells lines edges (d .answer) (d .out) before after told) e t;
 }
 
-pub imported-one : (table list lines edges : List ℕ) (zone : Drawn) (before : List ℕ) {o o′ : Output} {after after′ : List ℕ} {told told′ : Told}
-    → Imported table list lines edges zone o before after told → Imported table list lines edges zone o′ before after′ told′
+pub imported-one : (table list : List ℕ) (cells : ℕ) (lines edges : List ℕ) (zone : Drawn) (before : List ℕ) {o o′ : Output} {after after′ : List ℕ} {told told′ : Told}
+    → Imported table list cells lines edges zone o before after told → Imported table list cells lines edges zone o′ before after′ told′
     → (o ≡ o′) × (after ≡ after′) × (told ≡ told′)
-imported-one table list lines edges zone before p q =
-    let t = tells-one table list lines edges (zone .answer) (zone .out) before (p .tells) (q .tells) in
+imported-one table list cells lines edges zone before p q =
+    let t = tells-one table list cells lines edges (zone .answer) (zone .out) before (p .tells) (q .tells) in
     (p .out ∙ sym (q .out), t .0, t .1)
 
 -- ---- what was told, as a report
@@ -100,12 +100,12 @@ told-in slice name text done =
     (le-or-lt (length slice) (length text))
 
 pub imported-in : (table list lines edges : List ℕ) (t : Table) (cells : List ℕ) {o o′ : Output} {slice after : List ℕ} {told : Told} {room : ℕ} {r : Report} {p : Page}
-    → o ≡ newOutput → Imported table list lines edges (drawing t noMode cells o) o′ slice after told → room ≡ length slice → r ≡ reportOf told room
-    → p ≡ inRoom list (record { text = after; report = r }) → p ≡ zoneIn slice table list lines edges (drawing t noMode cells newOutput)
+    → o ≡ newOutput → Imported table list (length cells) lines edges (drawing t noMode cells o) o′ slice after told → room ≡ length slice → r ≡ reportOf told room
+    → p ≡ inRoom list (record { text = after; report = r }) → p ≡ zoneIn slice table list (length cells) lines edges (drawing t noMode cells newOutput)
 imported-in table list lines edges t cells {o′ = o′} {slice} {after} {told} {room} {r} e I l f q =
-    let told-zone = subst (λ (x : Output). Imported table list lines edges (drawing t noMode cells x) o′ slice after told) e I .tells in
+    let told-zone = subst (λ (x : Output). Imported table list (length cells) lines edges (drawing t noMode cells x) o′ slice after told) e I .tells in
     let zone = drawing t noMode cells newOutput in
-    let text = zoneText table list lines edges (zone .answer) (zone .out) in
+    let text = zoneText table list (length cells) lines edges (zone .answer) (zone .out) in
     let done = isAccepted (verdictOf (zone .answer)) in
     q
     ∙ ap (λ (x : List ℕ). inRoom list (record { text = x; report = r })) (told-zone .bytes)

@@ -36,10 +36,10 @@ tableIn slice table verdict = reportIn slice table (verdictText table verdict) (
 abbrev pub noMode : ℕ
 noMode = 2
 
--- The names of the two files; the lines of the cells; the table's edges; what dissolve comes to; the outputs left; the text before and after.
-pub record Imported (table list lines edges : List ℕ) (zone : Drawn) (output : Output) (before after : List ℕ) (told : Told) : Type 0 where
+-- The names of the two files; how many cells, and their lines; the table's edges; what dissolve comes to; the outputs left; the text before and after.
+pub record Imported (table list : List ℕ) (cells : ℕ) (lines edges : List ℕ) (zone : Drawn) (output : Output) (before after : List ℕ) (told : Told) : Type 0 where
   pub out : output ≡ zone .out
-  pub tells : Tells table list lines edges (zone .answer) (zone .out) before after told
+  pub tells : Tells table list cells lines edges (zone .answer) (zone .out) before after told
 
 -- what was told in a room, as a report
 abbrev pub reportOf : Told → ℕ → Report
@@ -48,5 +48,5 @@ reportOf (Refusal size) room = record { size = size; done = false }
 reportOf TooLong room = record { size = room; done = false }
 
 -- what is said of a zone in a slice, as it can be printed
-abbrev pub zoneIn : List ℕ → List ℕ → List ℕ → List ℕ → List ℕ → Drawn → Page
-zoneIn slice table list lines edges zone = reportIn slice list (zoneText table list lines edges (zone .answer) (zone .out)) (isAccepted (verdictOf (zone .answer)))
+abbrev pub zoneIn : List ℕ → List ℕ → List ℕ → ℕ → List ℕ → List ℕ → Drawn → Page
+zoneIn slice table list cells lines edges zone = reportIn slice list (zoneText table list cells lines edges (zone .answer) (zone .out)) (isAccepted (verdictOf (zone .answer)))

@@ -11,6 +11,7 @@ use scope::Verdict;
 use zone_lines::Told;
 use zone_lines::tell_zone;
 ghost use mathlib.Core.Path.{_≡_};
+ghost use lib.ListN.{length};
 ghost use Rattle.edge_table.specs.Checks.{checked};
 ghost use Rattle.scope.specs.Table.{table as tableOf};
 ghost use Rattle.scope.specs.Memory.{output};
@@ -68,7 +69,7 @@ fn import(
     ring_area: &mut [f64],
     ring_edges: &mut [u32],
 ) -> Told
-    ensures { λ r. ⌜ Imported (now (table .entry)) (now (list .entry)) (now (lines .entry)) (now (edges .entry))
+    ensures { λ r. ⌜ Imported (now (table .entry)) (now (list .entry)) (length (now (cells .entry))) (now (lines .entry)) (now (edges .entry))
         (drawing (tableOf (now (edges .entry)) (now (reverse .entry)) (now (area .entry))) noMode (now (cells .entry)) (output (now (start .entry)) (now (size .entry)) (now (group .entry)) (now («ring_area» .entry)) (now («ring_edges» .entry))))
         (output (now (start .exit)) (now (size .exit)) (now (group .exit)) (now («ring_area» .exit)) (now («ring_edges» .exit)))
         (now (text .entry)) (now (text .exit)) r ⌝ }
@@ -89,6 +90,7 @@ fn import(
         text,
         table,
         list,
+        cells.len(),
         lines,
         edges,
         answer,
@@ -126,7 +128,7 @@ pub fn import_list(
     cells: &[u64],
 ) -> Report
     ensures { λ r. ⌜ record { text = now (text .exit); report = r }
-        ≡ zoneIn (now (text .entry)) (now (table .entry)) (now (list .entry)) (now (lines .entry)) (now (edges .entry)) (drawing (tableOf (now (edges .entry)) (now (reverse .entry)) (now (area .entry))) noMode (now (cells .entry)) newOutput) ⌝ }
+        ≡ zoneIn (now (text .entry)) (now (table .entry)) (now (list .entry)) (length (now (cells .entry))) (now (lines .entry)) (now (edges .entry)) (drawing (tableOf (now (edges .entry)) (now (reverse .entry)) (now (area .entry))) noMode (now (cells .entry)) newOutput) ⌝ }
 {
     let mut start = ring_numbers();
     let mut size = ring_numbers();

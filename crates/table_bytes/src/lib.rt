@@ -1,7 +1,8 @@
 // The bytes of a table file into lent slices: rows of 20 bytes, as the library for Rust and C takes them.
+use least::least;
 use wire::columns::decode_table;
 ghost use mathlib.Core.Path.{_≡_};
-ghost use Prim.Native.Nat.{_*_, _≤_, min};
+ghost use Prim.Native.Nat.{_*_, _≤_};
 ghost use lib.ListN.{length};
 ghost use Rattle.scope.specs.Table.{table};
 ghost use Rattle.scope.specs.Bytes.{rowsIn, tableIn};
@@ -12,12 +13,6 @@ pub enum TableFile {
     Rows(usize),
     CutOff(usize),
     TooMany,
-}
-
-fn least(a: usize, b: usize) -> usize
-    ensures { λ r. ⌜ r ≡ min a b ⌝ }
-{
-    if a < b { a } else { b }
 }
 
 // What a file of so many bytes is.

@@ -14,6 +14,7 @@ use borrow.Author.Tests.{lt-ltb, le-ltb}
 use lib.Dec.{ltb}
 use lib.ListN.{set}
 use Rattle.cell_words.specs.declared.Line.the-variants as line
+use Rattle.cell_words.specs.declared.Wrong.{Wrong}
 use Rattle.cell_text.specs.declared.Ending.the-variants as ending
 use Rattle.cell_text.specs.declared.Listed.{Listed}
 use Rattle.cell_text.specs.Lines.{listedBy, storedBy, Took}
@@ -27,7 +28,7 @@ module _ {room number count : ℕ} {cells numbers : List ℕ} where
   unfolding listedBy storedBy
   took-passed = record { listed = refl; cells-are = refl; numbers-are = refl }
 
-  pub took-fault : {place : ℕ} → Took room (line.Fault place) number count cells numbers (record { count = count; ending = ending.Fault number place }) cells numbers
+  pub took-fault : {wrong : Wrong} → Took room (line.Fault wrong) number count cells numbers (record { count = count; ending = ending.Fault number wrong }) cells numbers
   unfolding listedBy storedBy
   took-fault = record { listed = refl; cells-are = refl; numbers-are = refl }
 

@@ -18,6 +18,7 @@ use Rattle.scope.specs.Lists.{at}
 use Rattle.scope.proofs.Tests.{either, clash}
 use Rattle.cell_words.specs.declared.Line.{Line}
 use Rattle.cell_words.specs.declared.Line.the-variants as line
+use Rattle.cell_words.specs.declared.Wrong.{Wrong}
 use Rattle.cell_text.specs.declared.Ending.the-variants as ending
 use Rattle.cell_text.specs.declared.Next.{Next}
 use Rattle.cell_text.specs.declared.Listed.{Listed}
@@ -83,8 +84,8 @@ module _ {text cells₀ numbers₀ : List ℕ} {room : ℕ} {cells numbers : Lis
             ∙ ap (λ (l : List ℕ). record { cells = (C .found ++ (x ∷ [])) ++ rest .cells; numbers = l; end = rest .end }) (sym (append-assoc (C .places) (number ∷ []) (rest .numbers)));
       }
 
-  pub come-fault : {place : ℕ} → next .line ≡ line.Fault place → Stored (cellsIn room text) cells₀ numbers₀ (record { count = count; ending = ending.Fault number place }) cells numbers
-  come-fault {place} e = ended-here C _ (read-next e)
+  pub come-fault : {wrong : Wrong} → next .line ≡ line.Fault wrong → Stored (cellsIn room text) cells₀ numbers₀ (record { count = count; ending = ending.Fault number wrong }) cells numbers
+  come-fault {wrong} e = ended-here C _ (read-next e)
 
   pub come-full : {x : ℕ} → next .line ≡ line.Cell x → count ≡ room → Stored (cellsIn room text) cells₀ numbers₀ (record { count = count; ending = ending.TooMany number }) cells numbers
   unfolding cellsIn fitted
@@ -113,7 +114,7 @@ module _ {text cells₀ numbers₀ : List ℕ} {room : ℕ} {cells numbers : Lis
         (λ t. let s = took-cell true t T in rw (s .0, s .1, s .2) (come-cell e (λ z. let f = ltb-true count room′ t in omega (arith, f, same, z))))
         (λ t. absurd (clash w (ap (λ (a : Listed). isWhole (a .ending)) (took-cell false t T .0))))
         (either (ltb count room′))
-    come-goes (line.Fault place) e T w = absurd (clash w (ap (λ (a : Listed). isWhole (a .ending)) (T .listed)))
+    come-goes (line.Fault wrong) e T w = absurd (clash w (ap (λ (a : Listed). isWhole (a .ending)) (T .listed)))
 
     pub come-ends : (l : Line) → next .line ≡ l → Took room′ l number count cells numbers answer cells′ numbers′ → isWhole (answer .ending) ≡ false
         → Stored (cellsIn room text) cells₀ numbers₀ answer cells′ numbers′
@@ -123,4 +124,4 @@ module _ {text cells₀ numbers₀ : List ℕ} {room : ℕ} {cells numbers : Lis
         (λ t. absurd (clash (ap (λ (a : Listed). isWhole (a .ending)) (took-cell true t T .0)) w))
         (λ t. let s = took-cell false t T in rw (s .0, s .1, s .2) (come-full e (let f = ltb-false count room′ t in omega (arith, f, same, C .fits))))
         (either (ltb count room′))
-    come-ends (line.Fault place) e T w = rw (T .listed, T .cells-are, T .numbers-are) (come-fault e)
+    come-ends (line.Fault wrong) e T w = rw (T .listed, T .cells-are, T .numbers-are) (come-fault e)

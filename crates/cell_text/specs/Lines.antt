@@ -47,7 +47,7 @@ andCell x k r = record { cells = x ∷ r .cells; numbers = k ∷ r .numbers; end
 abbrev pub andLine : Line → ℕ → Reading → Reading
 andLine line.Passed k r = r
 andLine (line.Cell x) k r = andCell x k r
-andLine (line.Fault place) k r = ended (ending.Fault k place)
+andLine (line.Fault wrong) k r = ended (ending.Fault k wrong)
 
 -- the lines from line k on
 unfoldable pub reading : ℕ → List (List ℕ) → Reading
@@ -86,7 +86,7 @@ pub record Stored (r : Reading) (cells numbers : List ℕ) (answer : Listed) (ce
 
 abbrev pub isWhole : Ending → Bool
 isWhole ending.Whole = true
-isWhole (ending.Fault number place) = false
+isWhole (ending.Fault number wrong) = false
 isWhole (ending.TooMany number) = false
 
 -- Line `number` taken, where `count` cells stand and `room` fit: how many stand after it, and what ends the reading there, Whole where nothing does.
@@ -94,13 +94,13 @@ unfoldable pub listedBy : ℕ → Line → ℕ → ℕ → Listed
 listedBy room line.Passed number count = record { count = count; ending = ending.Whole }
 listedBy room (line.Cell x) number count =
     cond (ltb count room) (record { count = count + 1; ending = ending.Whole }) (record { count = count; ending = ending.TooMany number })
-listedBy room (line.Fault place) number count = record { count = count; ending = ending.Fault number place }
+listedBy room (line.Fault wrong) number count = record { count = count; ending = ending.Fault number wrong }
 
 -- a slice after it, in which a cell that fits has its value stored
 unfoldable pub storedBy : ℕ → Line → (ℕ → ℕ) → ℕ → List ℕ → List ℕ
 storedBy room line.Passed value count s = s
 storedBy room (line.Cell x) value count s = cond (ltb count room) (set s count (value x)) s
-storedBy room (line.Fault place) value count s = s
+storedBy room (line.Fault wrong) value count s = s
 
 -- line `number` taken: the answer, and both slices
 pub record Took (room : ℕ) (l : Line) (number count : ℕ) (cells numbers : List ℕ) (answer : Listed) (cells′ numbers′ : List ℕ) : Type 0 where

@@ -1,7 +1,8 @@
 // A cell list as text: one cell a line in hexadecimal, with or without 0x; blank lines, # comments and a byte order mark in front are passed over.
-// The cells go into a lent slice, with the line of each beside it; a line that is none of these is named with its place.
+// The cells go into a lent slice, with the line of each beside it; a line that is none of these is named with what is wrong and its place.
 use cell_words::Kind;
 use cell_words::Line;
+use cell_words::Wrong;
 use cell_words::byte_at;
 use cell_words::leading;
 use cell_words::read_line;
@@ -12,10 +13,10 @@ ghost use lib.ListN.{length};
 ghost use lib.Seq.{sets};
 ghost use Rattle.cell_text.specs.Lines.{cellsIn, markOf, cellsOf, isWhole, Stored, NextLine, Took};
 
-// How a reading ends: with the text; at a fault, by line and place; or at a line whose cell finds no room.
+// How a reading ends: with the text; at a fault, by its line and what is wrong there; or at a line whose cell finds no room.
 pub enum Ending {
     Whole,
-    Fault(usize, usize),
+    Fault(usize, Wrong),
     TooMany(usize),
 }
 
@@ -95,9 +96,9 @@ fn take_line(
             ending: Ending::Whole,
         },
         Line::Cell(cell) => store_cell(cell, number, cells, numbers, count),
-        Line::Fault(place) => Listed {
+        Line::Fault(wrong) => Listed {
             count,
-            ending: Ending::Fault(number, place),
+            ending: Ending::Fault(number, wrong),
         },
     }
 }

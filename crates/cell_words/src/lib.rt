@@ -5,13 +5,19 @@ ghost use mathlib.Core.Bool.{true};
 ghost use Prim.Native.Nat.{_+_, _≤_, _<_, _^_};
 ghost use lib.ListN.{length};
 ghost use Rattle.scope.specs.Lists.{at};
-ghost use Rattle.cell_words.specs.Words.{isBlank, isDigit, isOf, leading as leadingOf, worth, blanksAfter, prefixed, prefixOf, numberIn, digitsOf, wordOf, trimmedOf, bodyOf, lineOf};
+ghost use Rattle.cell_words.specs.Words.{isBlank, isDigit, isOf, leading as leadingOf, worth, blanksAfter, prefixed, prefixOf, numberIn, soundIn, digitsOf, wordOf, trimmedOf, bodyOf, isFault, besideComment, lineOf};
 
-// What a line holds: nothing to take, a cell, or a fault at a place.
+// What a line holds: nothing to take, a cell, or a fault.
 pub enum Line {
     Passed,
     Cell(u64),
-    Fault(usize),
+    Fault(Wrong),
+}
+
+// What is wrong, and at which byte: no cell stands there, or a carriage return inside a comment.
+pub enum Wrong {
+    Word(usize),
+    Return(usize),
 }
 
 // Which bytes a scan passes.
@@ -115,6 +121,17 @@ fn number_in(digits: &[u8]) -> u64
     number
 }
 
+// How many bytes in front may stand, of which n are digits.
+fn sound_in(digits: &[u8], n: usize) -> usize
+    requires { ⌜ n ≤ length (now digits) ⌝ }
+    ensures { λ r. ⌜ (r ≡ soundIn (now (digits .entry)) n) × (r ≤ length (now (digits .entry))) ⌝ }
+{
+    if (1 <= n) & (n <= 16) {
+        return n + leading(&digits[n..], Kind::Blank);
+    }
+    least(n, 16)
+}
+
 // Digits that stand at place `start` of their line.
 fn read_digits(digits: &[u8], start: usize) -> Line
     requires { ⌜ start < 2 ^ 63 ⌝ }
@@ -124,7 +141,7 @@ fn read_digits(digits: &[u8], start: usize) -> Line
     if (n == digits.len()) & (1 <= n) & (n <= 16) {
         return Line::Cell(number_in(digits));
     }
-    Line::Fault(start + least(n, 16) + 1)
+    Line::Fault(Wrong::Word(start + sound_in(digits, n) + 1))
 }
 
 fn read_word(word: &[u8], start: usize) -> Line
@@ -155,10 +172,33 @@ fn read_body(body: &[u8]) -> Line
     read_trimmed(&body[start..], start)
 }
 
+fn is_fault(line: Line) -> bool
+    ensures { λ r. ⌜ r ≡ isFault line ⌝ }
+{
+    match line {
+        Line::Passed => false,
+        Line::Cell(_) => false,
+        Line::Fault(_) => true,
+    }
+}
+
+// What the body of a line holds, or the fault of the comment behind it, which begins at place `start`.
+fn beside_comment(comment: &[u8], start: usize, body: Line) -> Line
+    requires { ⌜ start + length (now comment) < 2 ^ 63 ⌝ }
+    ensures { λ r. ⌜ r ≡ besideComment start (now (comment .entry)) body ⌝ }
+{
+    let n = leading(comment, Kind::OtherThan(b'\r'));
+    if is_fault(body) | (comment.len() <= n + 1) {
+        return body;
+    }
+    Line::Fault(Wrong::Return(start + n + 1))
+}
+
 // A whole line, without its newline.
 pub fn read_line(line: &[u8]) -> Line
     ensures { λ r. ⌜ r ≡ lineOf (now (line .entry)) ⌝ }
 {
     let size = leading(line, Kind::OtherThan(b'#'));
-    read_body(&line[..size])
+    let body = read_body(&line[..size]);
+    beside_comment(&line[size..], size, body)
 }

@@ -8,10 +8,12 @@ use Rattle.text.specs.Text.{ascii, shown, unbroken, oneLine}
 use Rattle.text.proofs.Lines.{name-unbroken, number-unbroken, line-behind, name-line, number-line}
 use Rattle.files.specs.declared.Reason.{Reason}
 use Rattle.files.specs.declared.Reason.the-variants as reason
+use Rattle.cell_words.specs.declared.Wrong.{Wrong}
+use Rattle.cell_words.specs.declared.Wrong.the-variants as wrong
 use Rattle.cell_text.specs.declared.Ending.the-variants as ending
 use Rattle.table_bytes.specs.declared.TableFile.the-variants as file
 use Rattle.note_text.specs.Notes.{noted}
-use Rattle.report.specs.Faults.{unreadableWords, unreadableText, tooLongText, tableFaultText, listFaultText}
+use Rattle.report.specs.Faults.{unreadableWords, unreadableText, tooLongText, tableFaultText, wrongText, listFaultText}
 
 words-line : (why : Reason) → oneLine (unreadableWords why) ≡ true
 unfolding unreadableWords oneLine
@@ -19,6 +21,11 @@ words-line reason.Missing = refl
 words-line reason.Directory = refl
 words-line reason.Forbidden = refl
 words-line reason.Other = refl
+
+wrong-line : (what : Wrong) → oneLine (wrongText what) ≡ true
+unfolding wrongText oneLine
+wrong-line (wrong.Word place) = number-line place _ refl
+wrong-line (wrong.Return place) = number-line place _ refl
 
 module _ (name : List ℕ) where
   -- the name, and the line of a list
@@ -42,9 +49,9 @@ module _ (name : List ℕ) where
     unfolding tableFaultText oneLine
     rows-line = name-line name _ (number-line room _ refl)
 
-    pub fault-line : (line place : ℕ) → oneLine (listFaultText name room (ending.Fault line place)) ≡ true
-    unfolding listFaultText oneLine
-    fault-line line place = line-behind (shown name ++ noted (ascii " line ") line (ascii "")) _ (lined-unbroken line) (number-line place _ refl)
+    pub fault-line : (line : ℕ) (what : Wrong) → oneLine (listFaultText name room (ending.Fault line what)) ≡ true
+    unfolding listFaultText
+    fault-line line what = line-behind (shown name ++ noted (ascii " line ") line (ascii "")) (wrongText what) (lined-unbroken line) (wrong-line what)
 
     pub cells-line : (line : ℕ) → oneLine (listFaultText name room (ending.TooMany line)) ≡ true
     unfolding listFaultText oneLine

@@ -5,6 +5,8 @@ use mathlib.Core.List.{List, [], _++_}
 use Rattle.text.specs.Text.{ascii, shown}
 use Rattle.files.specs.declared.Reason.{Reason}
 use Rattle.files.specs.declared.Reason.the-variants as reason
+use Rattle.cell_words.specs.declared.Wrong.{Wrong}
+use Rattle.cell_words.specs.declared.Wrong.the-variants as wrong
 use Rattle.cell_text.specs.declared.Ending.{Ending}
 use Rattle.cell_text.specs.declared.Ending.the-variants as ending
 use Rattle.table_bytes.specs.declared.TableFile.{TableFile}
@@ -30,10 +32,12 @@ tableFaultText name room (file.Rows n) = []
 tableFaultText name room (file.CutOff place) = shown name ++ noted (ascii " byte ") place (ascii ": this row is cut off, a row has 20 bytes\n")
 tableFaultText name room file.TooMany = shown name ++ noted (ascii ": this table has more than ") room (ascii " rows\n")
 
+-- the byte of a line, and what is wrong there
+unfoldable pub wrongText : Wrong → List ℕ
+wrongText (wrong.Word place) = noted (ascii ", byte ") place (ascii ": a line has one cell, 1 to 16 hexadecimal digits, with or without 0x\n")
+wrongText (wrong.Return place) = noted (ascii ", byte ") place (ascii ": a carriage return inside a comment: lines end with LF\n")
+
 unfoldable pub listFaultText : List ℕ → ℕ → Ending → List ℕ
 listFaultText name room ending.Whole = []
-listFaultText name room (ending.Fault line place) =
-    shown name
-    ++ noted (ascii " line ") line (ascii "")
-    ++ noted (ascii ", byte ") place (ascii ": a line has one cell, 1 to 16 hexadecimal digits, with or without 0x\n")
+listFaultText name room (ending.Fault line what) = shown name ++ noted (ascii " line ") line (ascii "") ++ wrongText what
 listFaultText name room (ending.TooMany line) = shown name ++ noted (ascii " line ") line (ascii "") ++ noted (ascii ": there are more than ") room (ascii " cells\n")

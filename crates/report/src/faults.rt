@@ -1,5 +1,6 @@
 // Files that cannot be taken, in words.
 use cell_text::Ending;
+use cell_words::Wrong;
 use files::Reason;
 use note_text::put_noted;
 use table_bytes::TableFile;
@@ -8,7 +9,7 @@ use text::put_shown;
 ghost use Prim.Native.Nat.{_≤_};
 ghost use lib.ListN.{length};
 ghost use Rattle.text.specs.Text.{Wrote};
-ghost use Rattle.report.specs.Faults.{unreadableWords, unreadableText, tooLongText, tableFaultText, listFaultText};
+ghost use Rattle.report.specs.Faults.{unreadableWords, unreadableText, tooLongText, tableFaultText, wrongText, listFaultText};
 
 // Why a file cannot be read.
 fn put_unreadable_words(out: &mut [u8], at: usize, reason: Reason) -> usize
@@ -69,6 +70,29 @@ pub fn put_table_fault(
     }
 }
 
+// The byte of a line, and what is wrong there.
+fn put_wrong(out: &mut [u8], at: usize, wrong: Wrong) -> usize
+    requires { ⌜ at ≤ length (now out) ⌝ }
+    ensures { λ r. ⌜ Wrote (now (out .entry)) at (now (out .exit)) r (wrongText wrong) ⌝ }
+{
+    match wrong {
+        Wrong::Word(place) => put_noted(
+            out,
+            at,
+            b", byte ",
+            place,
+            b": a line has one cell, 1 to 16 hexadecimal digits, with or without 0x\n",
+        ),
+        Wrong::Return(place) => put_noted(
+            out,
+            at,
+            b", byte ",
+            place,
+            b": a carriage return inside a comment: lines end with LF\n",
+        ),
+    }
+}
+
 // What is wrong with a cell list, where something is.
 pub fn put_list_fault(out: &mut [u8], at: usize, name: &[u8], room: usize, ending: Ending) -> usize
     requires { ⌜ at ≤ length (now out) ⌝ }
@@ -76,16 +100,10 @@ pub fn put_list_fault(out: &mut [u8], at: usize, name: &[u8], room: usize, endin
 {
     match ending {
         Ending::Whole => at,
-        Ending::Fault(line, place) => {
+        Ending::Fault(line, wrong) => {
             let named = put_shown(out, at, name);
             let lined = put_noted(out, named, b" line ", line, b"");
-            put_noted(
-                out,
-                lined,
-                b", byte ",
-                place,
-                b": a line has one cell, 1 to 16 hexadecimal digits, with or without 0x\n",
-            )
+            put_wrong(out, lined, wrong)
         }
         Ending::TooMany(line) => {
             let named = put_shown(out, at, name);

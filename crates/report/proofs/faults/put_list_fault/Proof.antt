@@ -24,6 +24,15 @@ slice-aggregate-put-noted-2 c = search needs
 put-noted-requires : tie.Need-put-noted-requires
 put-noted-requires c κs = search needs
 
+put-wrong-requires : tie.Need-put-wrong-requires
+put-wrong-requires c κs = search needs
+
+enum-known-ending-2 : tie.Need-enum-known-ending-2
+enum-known-ending-2 c = search needs
+
+put-shown-requires-2 : tie.Need-put-shown-requires-2
+put-shown-requires-2 c κs = search needs
+
 slice-aggregate-put-noted-3 : tie.Need-slice-aggregate-put-noted-3
 slice-aggregate-put-noted-3 c = search needs
 
@@ -32,12 +41,6 @@ slice-aggregate-put-noted-4 c = search needs
 
 put-noted-requires-2 : tie.Need-put-noted-requires-2
 put-noted-requires-2 c κs = search needs
-
-enum-known-ending-2 : tie.Need-enum-known-ending-2
-enum-known-ending-2 c = search needs
-
-put-shown-requires-2 : tie.Need-put-shown-requires-2
-put-shown-requires-2 c κs = search needs
 
 slice-aggregate-put-noted-5 : tie.Need-slice-aggregate-put-noted-5
 slice-aggregate-put-noted-5 c = search needs
@@ -48,15 +51,6 @@ slice-aggregate-put-noted-6 c = search needs
 put-noted-requires-3 : tie.Need-put-noted-requires-3
 put-noted-requires-3 c κs = search needs
 
-slice-aggregate-put-noted-7 : tie.Need-slice-aggregate-put-noted-7
-slice-aggregate-put-noted-7 c = search needs
-
-slice-aggregate-put-noted-8 : tie.Need-slice-aggregate-put-noted-8
-slice-aggregate-put-noted-8 c = search needs
-
-put-noted-requires-4 : tie.Need-put-noted-requires-4
-put-noted-requires-4 c κs = search needs
-
 returns : tie.Need-returns
 unfolding listFaultText
 returns c = rw (c .enum-told .given .1) (wrote-none _ _ (c .before .before .before .before .pre))
@@ -66,14 +60,14 @@ same-length c = search needs
 
 returns-2 : tie.Need-returns-2
 unfolding listFaultText
-returns-2 c = rw (c .before .before .before .before .before .before .before .before .before .before .before .before .before .before .before .before .before .ending .given .1) (wrote-more (wrote-more (c .before .before .before .before .before .before .before .before .before .before .before .before .before .before .put-shown .ensures) (c .before .before .before .before .before .before .before .before .put-noted .ensures)) (c .before .before .put-noted2 .ensures))
+returns-2 c = rw (c .before .before .before .before .before .before .before .before .before .before .before .before .before .before .before .ending .given .1) (wrote-more (wrote-more (c .before .before .before .before .before .before .before .before .before .before .before .before .put-shown .ensures) (c .before .before .before .before .before .before .put-noted .ensures)) (c .before .before .put-wrong .ensures))
 
 same-length-2 : tie.Need-same-length-2
 same-length-2 c = search needs
 
 returns-3 : tie.Need-returns-3
 unfolding listFaultText
-returns-3 c = rw (c .before .before .before .before .before .before .before .before .before .before .before .before .before .before .before .before .before .ending2 .given .1) (wrote-more (wrote-more (c .before .before .before .before .before .before .before .before .before .before .before .before .before .before .put-shown2 .ensures) (c .before .before .before .before .before .before .before .before .put-noted3 .ensures)) (c .before .before .put-noted4 .ensures))
+returns-3 c = rw (c .before .before .before .before .before .before .before .before .before .before .before .before .before .before .before .before .before .ending2 .given .1) (wrote-more (wrote-more (c .before .before .before .before .before .before .before .before .before .before .before .before .before .before .put-shown2 .ensures) (c .before .before .before .before .before .before .before .before .put-noted2 .ensures)) (c .before .before .put-noted3 .ensures))
 
 pub put-list-fault-spec : {M : Type 1} → statement M
 put-list-fault-spec =
@@ -85,17 +79,15 @@ put-list-fault-spec =
     slice-aggregate-put-noted
     slice-aggregate-put-noted-2
     put-noted-requires
+    put-wrong-requires
+    enum-known-ending-2
+    put-shown-requires-2
     slice-aggregate-put-noted-3
     slice-aggregate-put-noted-4
     put-noted-requires-2
-    enum-known-ending-2
-    put-shown-requires-2
     slice-aggregate-put-noted-5
     slice-aggregate-put-noted-6
     put-noted-requires-3
-    slice-aggregate-put-noted-7
-    slice-aggregate-put-noted-8
-    put-noted-requires-4
     returns
     same-length
     returns-2

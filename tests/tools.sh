@@ -165,6 +165,16 @@ for tool in outline till_import year_audit; do
   refused "$work/word.cells line 2, byte 1: a line has one cell, 1 to 16 hexadecimal digits, with or without 0x" bin/$tool "$table" "$work/word.cells"
 done
 
+# ---- a carriage return: it ends a line before its newline and at the end of the text; in a comment it would swallow the cells behind it.
+# A fault is told at its byte, not at the blanks in front of it
+
+printf '# the market\r8928308280fffff\r8928308283bffff\r' >"$work/returns.cells"
+printf '# the market\r\n8928308280fffff # a stall\r' >"$work/ended.cells"
+printf '8928308280fffff\n8928308283bffff g\n' >"$work/letter.cells"
+refused "$work/returns.cells line 1, byte 13: a carriage return inside a comment: lines end with LF" bin/outline "$table" "$work/returns.cells"
+tells 'cells 1' bin/outline "$table" "$work/ended.cells"
+refused "$work/letter.cells line 2, byte 17: a line has one cell, 1 to 16 hexadecimal digits, with or without 0x" bin/outline "$table" "$work/letter.cells"
+
 # ---- little stack: an environment of nearly 1 MB takes none of it, and arguments that could take more than is left are refused
 
 large=$(head -c 120000 /dev/zero | tr '\0' x)

@@ -26,7 +26,7 @@ pub fn is_finite(x: f64) -> bool
 }
 
 // The edge of row `i` is above that of the row before it.
-fn row_ascends(edges: &[u64], i: usize) -> bool
+pub fn row_ascends(edges: &[u64], i: usize) -> bool
     requires { ⌜ i < length (now edges) ⌝ }
     ensures { λ b. ⌜ b ≡ ascends (now (edges .entry)) i ⌝ }
 {
@@ -67,7 +67,7 @@ fn bad_row(edges: &[u64], reverse: &[u32], area: &[f64]) -> usize
 }
 
 // Every row has the resolution of row 0.
-fn one_resolution(edges: &[u64]) -> bool
+pub fn one_resolution(edges: &[u64]) -> bool
     requires { ⌜ 0 < length (now edges) ⌝ }
     ensures { λ b. ⌜ b ≡ passes (hasTarget (now (edges .entry))) (length (now (edges .entry))) ⌝ }
 {

@@ -4,3 +4,4 @@ pub mod Outcomes
 pub mod Broken
 pub mod Telling
 pub mod OneLine
+pub mod Examples

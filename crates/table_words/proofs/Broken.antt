@@ -3,15 +3,15 @@
 --     fault-broken     of a table that is refused, with the row that is answered
 --     refused-low      that row is at most 65,536
 -- Assumes nothing.
-use Prim.Native.Nat.{ℕ, _<_, _≤_}
+use Prim.Native.Nat.{ℕ, _≤_}
 use mathlib.Core.Path.{_≡_, refl, sym, _∙_, ap, subst}
-use mathlib.Core.Bool.{Bool, true, false, _&&_, not, cond}
+use mathlib.Core.Bool.{Bool, true, false, not, cond}
 use mathlib.Core.Logic.{⊎-elim}
 use native.Mathlib.Omega.{arith}
 use lib.Dec.{eqb, leb, ltb}
 use lib.Ieee.{nan}
 use lib.ListN.{length, getD}
-use borrow.Author.Tests.{ltb-true, ltb-false, leb-true, le-leb}
+use borrow.Author.Tests.{not-true, not-false, ltb-true, ltb-false, leb-true, le-leb}
 use Rattle.scope.specs.declared.Verdict.{Verdict}
 use Rattle.scope.specs.declared.Verdict.the-variants.{Accepted, Refused}
 use Rattle.scope.specs.Answers.{require, requireNone, _▷_, indexOf, isAccepted}
@@ -22,21 +22,15 @@ use Rattle.scope.specs.Memory.{tableAgrees}
 use Rattle.scope.proofs.Tests.{either, clash, and-right, and-both}
 use Rattle.scope.proofs.Scan.{firstBad-lowest}
 use Rattle.edge_table.specs.Checks.{checked}
-use Rattle.table_words.specs.declared.rules.WholeFault.the-variants.{Lengths, TooFew, TooMany, Resolutions}
-use Rattle.table_words.specs.declared.rules.RowFault.{RowFault}
-use Rattle.table_words.specs.declared.rules.RowFault.the-variants.{NoEdge, NotAbove, PastEnd, Itself, NotBack, NotFinite, Sound}
-use Rattle.table_words.specs.declared.rules.Fault.{Fault}
-use Rattle.table_words.specs.declared.rules.Fault.the-variants.{Whole, Row}
 use Rattle.table_words.specs.Faults.{rowFault, faultOf, RowBreaks, WholeBreaks, Breaks}
 
--- one test: the first fault where it fails, the others where it holds
-by-test : {A : Type 0} (P : A → Type 0) (b : Bool) (x y : A) → (b ≡ false → P x) → (b ≡ true → P y) → P (cond (not b) x y)
-by-test P true x y p q = q refl
-by-test P false x y p q = p refl
-
+-- one of two, by a test, and by its negation
 by-fault : {A : Type 0} (P : A → Type 0) (b : Bool) (x y : A) → (b ≡ true → P x) → (b ≡ false → P y) → P (cond b x y)
 by-fault P true x y p q = p refl
 by-fault P false x y p q = q refl
+
+by-test : {A : Type 0} (P : A → Type 0) (b : Bool) (x y : A) → (b ≡ false → P x) → (b ≡ true → P y) → P (cond (not b) x y)
+by-test P b x y p q = by-fault P (not b) x y (λ e. p (not-true b e)) (λ e. q (not-false b e))
 
 module _ (t : Table) (i : ℕ) where
   good : validEdge (at (t .edges) i) ≡ true → ascends (t .edges) i ≡ true → ltb (reverseOf t i) (length (t .reverse)) ≡ true → eqb (reverseOf t i) i ≡ false

@@ -2,8 +2,8 @@
 -- Assumes nothing.
 use Prim.Native.Nat.{ℕ}
 use mathlib.Core.Path.{_≡_}
-use mathlib.Core.Bool.{Bool, true, false, not, cond}
-use lib.Dec.{eqb, leb, ltb}
+use mathlib.Core.Bool.{true, false, not, cond}
+use lib.Dec.{eqb, ltb}
 use lib.Ieee.{nan}
 use lib.ListN.{length, getD}
 use Rattle.scope.specs.Lists.{at, passes}

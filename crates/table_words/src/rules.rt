@@ -12,7 +12,7 @@ ghost use Rattle.scope.specs.Cells.{validEdge};
 ghost use Rattle.scope.specs.Table.{table, isFinite};
 ghost use Rattle.table_words.specs.Faults.{rowFault, faultOf};
 
-// What the rows have against the table together: slices of unequal lengths, too few or too many rows, unequal resolutions.
+// What is wrong with a table as a whole: columns of unequal lengths, too few or too many rows, edges of unequal resolutions.
 pub enum WholeFault {
     Lengths,
     TooFew,
@@ -32,6 +32,7 @@ pub enum RowFault {
     Sound,
 }
 
+// The first is of refusals that point at no row.
 pub enum Fault {
     Whole(WholeFault),
     Row(RowFault),

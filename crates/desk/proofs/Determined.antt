@@ -1,5 +1,6 @@
 -- What is promised leaves one outcome.
 --     table-loaded-one, cells-loaded-one    the bytes that came determine what `load_table` and `load_cells` load
+--     sound-loaded-one                      so of `load_sound_table`
 --     table-taken-one, cells-taken-one      and what was read determines all that `take_table` and `take_cells` leave
 -- Assumes nothing.
 use Prim.Native.Nat.{ℕ}
@@ -11,12 +12,19 @@ use Rattle.files.specs.declared.FileRead.{FileRead}
 use Rattle.desk.specs.declared.Taken.{Taken}
 use Rattle.desk.specs.Loads.{Came, TableLoad, tableLoaded, LoadsTable, CellLoad, listLoaded, LoadsCells}
 use Rattle.desk.specs.Taking.{TakesTable, TakesCells}
+use Rattle.desk.specs.Tables.{soundOf, LoadsSound}
 
 pub table-loaded-one : {text text₂ : List ℕ} {t t′ t″ : Table} {r r₂ : Loaded} (A : LoadsTable text t r t′) (B : LoadsTable text₂ t r₂ t″)
     → A .came ≡ B .came → (r ≡ r₂) × (t′ ≡ t″)
 table-loaded-one {t = t} A B e =
     let same = A .loads ∙ ap (λ (c : Came). tableLoaded c t) e ∙ sym (B .loads) in
     (ap (λ (x : TableLoad). x .answer) same, ap (λ (x : TableLoad). x .left) same)
+
+pub sound-loaded-one : {text text₂ : List ℕ} {t t′ t″ : Table} {r r₂ : Loaded} (A : LoadsSound text t r t′) (B : LoadsSound text₂ t r₂ t″)
+    → A .loads .came ≡ B .loads .came → (r ≡ r₂) × (t′ ≡ t″)
+sound-loaded-one {t″ = t″} A B e =
+    let same = table-loaded-one (A .loads) (B .loads) e in
+    (A .sound ∙ ap (soundOf (A .loaded)) (same .1) ∙ ap (λ (l : Loaded). soundOf l t″) (same .0) ∙ sym (B .sound), same .1)
 
 pub cells-loaded-one : {text text₂ cells lines cells′ lines′ cells″ lines″ : List ℕ} {r r₂ : Loaded}
     (A : LoadsCells text cells lines r cells′ lines′) (B : LoadsCells text₂ cells lines r₂ cells″ lines″)

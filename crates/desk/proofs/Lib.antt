@@ -6,4 +6,5 @@ pub mod Whole
 pub mod Outputs
 pub mod Zeros
 pub mod Pages
+pub mod Sound
 pub mod Determined

@@ -1,6 +1,6 @@
 // Arrays of full size, for the programs: 65,536 rows, 65,536 slots, 16,384 places. All hold zeros.
 //
-// They all lie on the stack, of which bin/tool asks 8 MB. In bytes:
+// They all lie on the stack, of which bin/tool asks 12 MB. In bytes:
 //     a table      1,310,720   row_words, row_numbers, row_floats
 //     a state      1,900,544   place_words, 3 place_numbers, 4 slot_numbers, 2 row_numbers
 //     an output      786,432   3 ring_numbers, ring_floats, edge_numbers

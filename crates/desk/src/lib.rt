@@ -2,6 +2,7 @@
 // answered with the one line that says why. No contract can say which bytes a file has; what becomes of them is promised.
 pub mod arrays;
 pub mod reports;
+pub mod tables;
 pub mod words;
 
 use cell_text::Ending;

@@ -15,7 +15,7 @@ use desk::arrays::row_numbers;
 use desk::arrays::row_words;
 use desk::arrays::text_bytes;
 use desk::load_cells;
-use desk::load_table;
+use desk::tables::load_sound_table;
 use desk::words::say_report;
 use zone::draw_zone;
 
@@ -27,8 +27,13 @@ fn outline(table_name: &[u8], list_name: &[u8], mode: usize, by_row: bool) {
     let mut area = row_floats();
     let mut cells = place_words();
     let mut lines = place_lines();
-    let Loaded::Count(rows) = load_table(table_name, &mut text, &mut edges, &mut reverse, &mut area)
-    else {
+    let Loaded::Count(rows) = load_sound_table(
+        table_name,
+        &mut text,
+        &mut edges,
+        &mut reverse,
+        &mut area,
+    ) else {
         return;
     };
     let Loaded::Count(count) = load_cells(list_name, &mut text, &mut cells, &mut lines) else {

@@ -1,6 +1,4 @@
--- A table told, and a zone imported.
---     table-kept, table-refused     from the verdict on the table
---     table-in        what is told of it, brought into its room
+-- A zone imported.
 --     imported        from what dissolve comes to, told
 --     imported-one    what the promise of `import` allows is one outcome: what is told, the text and the outputs
 --     imported-in     in outputs of zeros, told as a report and brought into its room, it is what `import_list` promises
@@ -16,45 +14,21 @@ use borrow.Author.Tests.{lt-ltb, le-ltb}
 use lib.ListN.{length}
 use lib.Seq.{sets, length-sets}
 use Rattle.scope.specs.declared.ReadOut.{ReadOut}
-use Rattle.scope.specs.declared.Verdict.{Verdict}
-use Rattle.scope.specs.declared.Verdict.the-variants.{Accepted, Refused}
 use Rattle.scope.specs.Answers.{isAccepted, verdictOf}
 use Rattle.scope.specs.Table.{Table}
 use Rattle.scope.specs.Memory.{Output}
 use Rattle.scope.proofs.Tests.{le-or-lt}
-use Rattle.text.specs.Text.{Wrote}
-use Rattle.text.proofs.Writing.{wrote-none}
-use Rattle.refusal_text.specs.Refusals.{refusalText}
 use Rattle.desk.specs.declared.reports.Report.{Report}
 use Rattle.desk.specs.Outputs.{newOutput}
 use Rattle.desk.specs.Reports.{Page, inRoom, reportIn}
-use Rattle.desk.proofs.Pages.{filled, reported-in}
+use Rattle.desk.proofs.Pages.{filled}
 use Rattle.zone_lines.specs.declared.Told.{Told}
 use Rattle.zone_lines.specs.declared.Told.the-variants.{Answer, Refusal}
 use Rattle.zone_lines.specs.Zones.{zoneText}
 use Rattle.zone_lines.specs.Telling.{toldBy, Tells}
 use Rattle.zone_lines.proofs.Determined.{tells-one}
 use Rattle.full_size.specs.Drawing.{Drawn, drawing}
-use Rattle.till_import.specs.Imports.{verdictText, VerdictTold, tableIn, noMode, Imported, reportOf, zoneIn}
-
-module _ {table before : List ℕ} {verdict : Verdict} where
-  pub table-kept : verdict ≡ Accepted → VerdictTold table verdict before before (record { size = 0; done = true })
-  unfolding verdictText
-  table-kept a = subst (λ (v : Verdict). VerdictTold table v before before (record { size = 0; done = true })) (sym a)
-      (record { text = wrote-none before 0 (omega arith); passes = refl })
-
-  pub table-refused : {number row : ℕ} → verdict ≡ Refused number row
-      → {after : List ℕ} {end : ℕ} → Wrote before 0 after end (refusalText table table number row 0)
-      → VerdictTold table verdict before after (record { size = end; done = false })
-  unfolding verdictText
-  table-refused a {after} {end} w = subst (λ (v : Verdict). VerdictTold table v before after (record { size = end; done = false })) (sym a)
-      (record { text = w; passes = refl })
-
-pub table-in : {table slice after : List ℕ} {found verdict : Verdict} {r : Report} {p : Page} → found ≡ verdict → VerdictTold table found slice after r
-    → p ≡ inRoom table (record { text = after; report = r }) → p ≡ tableIn slice table verdict
-table-in {table} {slice} {after} {r = r} e T q =
-    let told = subst (λ (v : Verdict). VerdictTold table v slice after r) e T in
-    reported-in table (told .text) (told .passes) q
+use Rattle.till_import.specs.Imports.{noMode, Imported, reportOf, zoneIn}
 
 pub imported : {table list : List ℕ} {cells : ℕ} {lines edges : List ℕ} {zone : Drawn} {answer : ReadOut} {o : Output} {before after : List ℕ} {told : Told}
     → record { answer = answer; out = o } ≡ zone → Tells table list cells lines edges answer o before after told → Imported table list cells lines edges zone o before after told

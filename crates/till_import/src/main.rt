@@ -14,10 +14,9 @@ use desk::arrays::row_numbers;
 use desk::arrays::row_words;
 use desk::arrays::text_bytes;
 use desk::load_cells;
-use desk::load_table;
+use desk::tables::load_sound_table;
 use desk::words::say_report;
 use zone::import_list;
-use zone::tell_table;
 
 // Imports the list in a file.
 fn import_file(
@@ -77,34 +76,22 @@ fn import_words(
     }
 }
 
-// Imports over a table that was loaded, where it keeps the rules; else no zone can be dissolved over it, and that is said once.
-fn import_over(
-    text: &mut [u8],
-    table: &[u8],
-    edges: &[u64],
-    reverse: &[u32],
-    area: &[f64],
-    first: usize,
-) {
-    let report = tell_table(text, table, edges, reverse, area);
-    if report.done {
-        import_words(text, table, edges, reverse, area, first);
-    } else {
-        say_report(text, report);
-    }
-}
-
-// Loads the table, and goes on where it can be taken.
+// Loads the table and goes on where it keeps the rules: one that does not is told once, and not for each zone.
 fn import_all(table: &[u8], first: usize) {
     let mut text = text_bytes();
     let mut edges = row_words();
     let mut reverse = row_numbers();
     let mut area = row_floats();
-    let Loaded::Count(rows) = load_table(table, &mut text, &mut edges, &mut reverse, &mut area)
-    else {
+    let Loaded::Count(rows) = load_sound_table(
+        table,
+        &mut text,
+        &mut edges,
+        &mut reverse,
+        &mut area,
+    ) else {
         return;
     };
-    import_over(
+    import_words(
         &mut text,
         table,
         &edges[..rows],

@@ -1,54 +1,20 @@
-// The table's check told in words, and a zone imported: its list dissolved in a fresh state, naming no mode, and told as lines.
+// A zone imported: its list dissolved in a fresh state, naming no mode, and told as lines.
 use desk::arrays::edge_numbers;
 use desk::arrays::ring_floats;
 use desk::arrays::ring_numbers;
 use desk::reports::Report;
 use desk::reports::in_room;
-use edge_table::check_table;
 use full_size::dissolve_list;
-use refusal_text::put_refusal;
-use scope::Verdict;
 use zone_lines::Told;
 use zone_lines::tell_zone;
 ghost use mathlib.Core.Path.{_≡_};
 ghost use lib.ListN.{length};
-ghost use Rattle.edge_table.specs.Checks.{checked};
 ghost use Rattle.scope.specs.Table.{table as tableOf};
 ghost use Rattle.scope.specs.Memory.{output};
 ghost use Rattle.full_size.specs.Drawing.{drawing};
 ghost use Rattle.desk.specs.Outputs.{newOutput};
 ghost use Rattle.desk.specs.Reports.{Page};
-ghost use Rattle.till_import.specs.Imports.{VerdictTold, tableIn, noMode, Imported, reportOf, zoneIn};
-
-fn tell_verdict(text: &mut [u8], table: &[u8], verdict: Verdict) -> Report
-    ensures { λ r. ⌜ VerdictTold (now (table .entry)) verdict (now (text .entry)) (now (text .exit)) r ⌝ }
-{
-    match verdict {
-        Verdict::Accepted => Report {
-            size: 0,
-            done: true,
-        },
-        Verdict::Refused(number, row) => Report {
-            size: put_refusal(text, 0, table, table, number, row, 0),
-            done: false,
-        },
-    }
-}
-
-// Whether the table keeps the rules; where it does not, the refusal is told.
-pub fn tell_table(
-    text: &mut [u8],
-    table: &[u8],
-    edges: &[u64],
-    reverse: &[u32],
-    area: &[f64],
-) -> Report
-    ensures { λ r. ⌜ record { text = now (text .exit); report = r } ≡ tableIn (now (text .entry)) (now (table .entry)) (checked (tableOf (now (edges .entry)) (now (reverse .entry)) (now (area .entry)))) ⌝ }
-{
-    let verdict = check_table(edges, reverse, area);
-    let report = tell_verdict(text, table, verdict);
-    in_room(text, report, table)
-}
+ghost use Rattle.till_import.specs.Imports.{noMode, Imported, reportOf, zoneIn};
 
 // Mode 2 names none.
 const NO_MODE: usize = 2;

@@ -14,7 +14,7 @@ use desk::arrays::row_numbers;
 use desk::arrays::row_words;
 use desk::arrays::text_bytes;
 use desk::load_cells;
-use desk::load_table;
+use desk::tables::load_sound_table;
 use desk::words::say_report;
 use year::audit_feed;
 ghost use Prim.Native.Nat.{_≤_};
@@ -26,7 +26,7 @@ fn load_rows(path: &[u8], edges: &mut [u64], reverse: &mut [u32], area: &mut [f6
     ensures { λ r. ⌜ (countOf r ≤ length (now (edges .entry))) × (countOf r ≤ length (now (reverse .entry))) × (countOf r ≤ length (now (area .entry))) ⌝ }
 {
     let mut text = text_bytes();
-    load_table(path, &mut text, edges, reverse, area)
+    load_sound_table(path, &mut text, edges, reverse, area)
 }
 
 // Loads the feed at `path`, in the same way.

@@ -4,7 +4,8 @@ use native.Mathlib.Omega.{arith}
 use borrow.Author.Needs.{needs}
 use mathlib.Core.Path.{sym}
 use lib.Seq.{length-take-le}
-use Rattle.desk.proofs.Fits.{rows-few, cells-few}
+use Rattle.desk.proofs.Fits.{cells-few}
+use Rattle.desk.proofs.Sound.{sound-few}
 use Rattle.desk.proofs.Within.{loaded}
 use Rattle.desk.proofs.Pages.{in-slice, within}
 use Rattle.outline.proofs.outline.Statement.{statement}
@@ -28,20 +29,20 @@ place-words-requires c κs = search needs
 place-lines-requires : tie.Need-place-lines-requires
 place-lines-requires c κs = search needs
 
-slice-aggregate-load-table : tie.Need-slice-aggregate-load-table
-slice-aggregate-load-table c = search needs
+slice-aggregate-load-sound-table : tie.Need-slice-aggregate-load-sound-table
+slice-aggregate-load-sound-table c = search needs
 
-slice-aggregate-load-table-2 : tie.Need-slice-aggregate-load-table-2
-slice-aggregate-load-table-2 c = search needs
+slice-aggregate-load-sound-table-2 : tie.Need-slice-aggregate-load-sound-table-2
+slice-aggregate-load-sound-table-2 c = search needs
 
-slice-aggregate-load-table-3 : tie.Need-slice-aggregate-load-table-3
-slice-aggregate-load-table-3 c = search needs
+slice-aggregate-load-sound-table-3 : tie.Need-slice-aggregate-load-sound-table-3
+slice-aggregate-load-sound-table-3 c = search needs
 
-slice-aggregate-load-table-4 : tie.Need-slice-aggregate-load-table-4
-slice-aggregate-load-table-4 c = search needs
+slice-aggregate-load-sound-table-4 : tie.Need-slice-aggregate-load-sound-table-4
+slice-aggregate-load-sound-table-4 c = search needs
 
-load-table-requires : tie.Need-load-table-requires
-load-table-requires c κs = search needs
+load-sound-table-requires : tie.Need-load-sound-table-requires
+load-sound-table-requires c κs = search needs
 
 enum-known-rows : tie.Need-enum-known-rows
 enum-known-rows c = search needs
@@ -77,22 +78,22 @@ slice-aggregate-draw-zone : tie.Need-slice-aggregate-draw-zone
 slice-aggregate-draw-zone c = search needs
 
 array-share-prefix-edges : tie.Need-array-share-prefix-edges
-array-share-prefix-edges c = let load = c .before .before .before .before .before .before .before .before .before .before .before .before .before .before .before .before .before .before .load-table in omega (arith, loaded (c .before .before .before .before .before .before .before .before .before .before .before .before .rows .given .1) (rows-few (load .ensures) .0), load .kept .1 .1 .0)
+array-share-prefix-edges c = let load = c .before .before .before .before .before .before .before .before .before .before .before .before .before .before .before .before .before .before .load-sound-table in omega (arith, loaded (c .before .before .before .before .before .before .before .before .before .before .before .before .rows .given .1) (sound-few (load .ensures) .0), load .kept .1 .1 .0)
 
 slice-aggregate-draw-zone-2 : tie.Need-slice-aggregate-draw-zone-2
-slice-aggregate-draw-zone-2 c = sym (length-take-le _ _ (let load = c .before .before .before .before .before .before .before .before .before .before .before .before .before .before .before .before .before .before .before .load-table in omega (arith, loaded (c .before .before .before .before .before .before .before .before .before .before .before .before .before .rows .given .1) (rows-few (load .ensures) .0), load .kept .1 .1 .0)))
+slice-aggregate-draw-zone-2 c = sym (length-take-le _ _ (let load = c .before .before .before .before .before .before .before .before .before .before .before .before .before .before .before .before .before .before .before .load-sound-table in omega (arith, loaded (c .before .before .before .before .before .before .before .before .before .before .before .before .before .rows .given .1) (sound-few (load .ensures) .0), load .kept .1 .1 .0)))
 
 array-share-prefix-reverse : tie.Need-array-share-prefix-reverse
-array-share-prefix-reverse c = let load = c .before .before .before .before .before .before .before .before .before .before .before .before .before .before .before .before .before .before .before .load-table in omega (arith, loaded (c .before .before .before .before .before .before .before .before .before .before .before .before .before .rows .given .1) (rows-few (load .ensures) .1), load .kept .1 .1 .1 .0)
+array-share-prefix-reverse c = let load = c .before .before .before .before .before .before .before .before .before .before .before .before .before .before .before .before .before .before .before .load-sound-table in omega (arith, loaded (c .before .before .before .before .before .before .before .before .before .before .before .before .before .rows .given .1) (sound-few (load .ensures) .1), load .kept .1 .1 .1 .0)
 
 slice-aggregate-draw-zone-3 : tie.Need-slice-aggregate-draw-zone-3
-slice-aggregate-draw-zone-3 c = sym (length-take-le _ _ (let load = c .before .before .before .before .before .before .before .before .before .before .before .before .before .before .before .before .before .before .before .before .load-table in omega (arith, loaded (c .before .before .before .before .before .before .before .before .before .before .before .before .before .before .rows .given .1) (rows-few (load .ensures) .1), load .kept .1 .1 .1 .0)))
+slice-aggregate-draw-zone-3 c = sym (length-take-le _ _ (let load = c .before .before .before .before .before .before .before .before .before .before .before .before .before .before .before .before .before .before .before .before .load-sound-table in omega (arith, loaded (c .before .before .before .before .before .before .before .before .before .before .before .before .before .before .rows .given .1) (sound-few (load .ensures) .1), load .kept .1 .1 .1 .0)))
 
 array-share-prefix-area : tie.Need-array-share-prefix-area
-array-share-prefix-area c = let load = c .before .before .before .before .before .before .before .before .before .before .before .before .before .before .before .before .before .before .before .before .load-table in omega (arith, loaded (c .before .before .before .before .before .before .before .before .before .before .before .before .before .before .rows .given .1) (rows-few (load .ensures) .2), load .kept .1 .1 .1 .1 .0)
+array-share-prefix-area c = let load = c .before .before .before .before .before .before .before .before .before .before .before .before .before .before .before .before .before .before .before .before .load-sound-table in omega (arith, loaded (c .before .before .before .before .before .before .before .before .before .before .before .before .before .before .rows .given .1) (sound-few (load .ensures) .2), load .kept .1 .1 .1 .1 .0)
 
 slice-aggregate-draw-zone-4 : tie.Need-slice-aggregate-draw-zone-4
-slice-aggregate-draw-zone-4 c = sym (length-take-le _ _ (let load = c .before .before .before .before .before .before .before .before .before .before .before .before .before .before .before .before .before .before .before .before .before .load-table in omega (arith, loaded (c .before .before .before .before .before .before .before .before .before .before .before .before .before .before .before .rows .given .1) (rows-few (load .ensures) .2), load .kept .1 .1 .1 .1 .0)))
+slice-aggregate-draw-zone-4 c = sym (length-take-le _ _ (let load = c .before .before .before .before .before .before .before .before .before .before .before .before .before .before .before .before .before .before .before .before .before .load-sound-table in omega (arith, loaded (c .before .before .before .before .before .before .before .before .before .before .before .before .before .before .before .rows .given .1) (sound-few (load .ensures) .2), load .kept .1 .1 .1 .1 .0)))
 
 array-share-prefix-cells : tie.Need-array-share-prefix-cells
 array-share-prefix-cells c = let load = c .before .before .before .before .before .before .before .before .before .before .load-cells in omega (arith, loaded (c .before .before .before .before .before .count .given .1) (cells-few (load .ensures) .0), load .kept .1 .1 .0)
@@ -128,11 +129,11 @@ outline-spec =
     row-floats-requires
     place-words-requires
     place-lines-requires
-    slice-aggregate-load-table
-    slice-aggregate-load-table-2
-    slice-aggregate-load-table-3
-    slice-aggregate-load-table-4
-    load-table-requires
+    slice-aggregate-load-sound-table
+    slice-aggregate-load-sound-table-2
+    slice-aggregate-load-sound-table-3
+    slice-aggregate-load-sound-table-4
+    load-sound-table-requires
     enum-known-rows
     enum-told
     returns

@@ -60,6 +60,19 @@ ends() {
 head -c 42235 "$table" >"$work/cut.table"
 : >"$work/empty"
 { cat "$table"; head -c 20 "$table"; } >"$work/unordered.table"
+
+# patched NAME OFFSET BYTES: the table with other bytes in row 5, which begins at byte 100
+patched() {
+  cp "$table" "$work/$1.table"
+  printf "$3" | dd of="$work/$1.table" bs=1 seek=$((100 + $2)) conv=notrunc status=none
+}
+
+patched resolution 6 '\x82'
+patched edge 7 '\x17'
+patched past 8 '\xff\xff\x00\x00'
+patched itself 8 '\x05\x00\x00\x00'
+patched back 8 '\x06\x00\x00\x00'
+patched term 12 '\x00\x00\x00\x00\x00\x00\xf8\x7f'
 yes x | head -c 1500000 >"$work/long"
 head -c 4000 /bin/sh >"$work/binary"
 printf '8928308280fffff\r\n# a comment\n\n 0x8928308283bffff  # another\n' >"$work/good.cells"
@@ -142,12 +155,18 @@ for tool in outline till_import year_audit; do
   status=$?
   : >"$work/out"
   [ "$status" -eq 1 ] && [ "$(cat "$work/err")" = 'what there is to say could not be written' ] || fault "$tool to a full disk"
+  tests=$((tests + 1))
+  bin/$tool "$table" "$zone" >&- 2>"$work/err"
+  status=$?
+  [ "$status" -eq 1 ] && [ "$(cat "$work/err")" = 'what there is to say could not be written' ] || fault "$tool with standard output closed"
+  tests=$((tests + 1))
+  bin/$tool "$table" "$work/none" 2>/dev/full
+  status=$?
+  [ "$status" -eq 1 ] || fault "$tool with standard error full"
 done
 
 # ---- files that no tool can take; each tool takes a table and a list
 
-first_row='the table has fewer than 2 rows or more than 65536, its resolutions are unequal, or this row is no valid edge, is not named back by its reverse row, or has no finite area term'
-later_row='this row (the first is row 0, each has 20 bytes) is no valid edge, is out of order, is not named back by its reverse row, or has no finite area term'
 too_long_name=$(printf 'x%.0s' $(seq 1 300))
 for tool in outline till_import year_audit; do
   refused "$work/none: there is no such file" bin/$tool "$work/none" "$zone"
@@ -156,8 +175,15 @@ for tool in outline till_import year_audit; do
   refused "$too_long_name: this file cannot be read" bin/$tool "$too_long_name" "$zone"
   refused "$work/long byte 1441792: this file is too long" bin/$tool "$work/long" "$zone"
   refused "$work/cut.table byte 42220: this row is cut off, a row has 20 bytes" bin/$tool "$work/cut.table" "$zone"
-  refused "$work/empty row 0: refused 1, $first_row" bin/$tool "$work/empty" "$zone"
-  refused "$work/unordered.table row 2112: refused 1, $later_row" bin/$tool "$work/unordered.table" "$zone"
+  refused "$work/empty: refused 1, the table has fewer than 2 rows" bin/$tool "$work/empty" "$zone"
+  refused "$work/empty: refused 1, the table has fewer than 2 rows" bin/$tool "$work/empty" "$work/none"
+  refused "$work/unordered.table row 2112, byte 42240: refused 1, this row is not above the one before it" bin/$tool "$work/unordered.table" "$zone"
+  refused "$work/resolution.table: refused 1, its edges are of unequal resolutions" bin/$tool "$work/resolution.table" "$zone"
+  refused "$work/edge.table row 5, byte 100: refused 1, this row is no valid edge" bin/$tool "$work/edge.table" "$zone"
+  refused "$work/past.table row 5, byte 100: refused 1, its reverse row is past the end of the table" bin/$tool "$work/past.table" "$zone"
+  refused "$work/itself.table row 5, byte 100: refused 1, its reverse row is the row itself" bin/$tool "$work/itself.table" "$zone"
+  refused "$work/back.table row 5, byte 100: refused 1, its reverse row does not name it back" bin/$tool "$work/back.table" "$zone"
+  refused "$work/term.table row 5, byte 100: refused 1, its area term is not finite" bin/$tool "$work/term.table" "$zone"
   refused "$work/none: there is no such file" bin/$tool "$table" "$work/none"
   refused "$work: this is a directory" bin/$tool "$table" "$work"
   refused "$work/long byte 1441792: this file is too long" bin/$tool "$table" "$work/long"
@@ -230,7 +256,7 @@ for tool in outline till_import year_audit; do
   refused "$named: there is no such file" bin/$tool "$table" "$broken"
   refused "$work/?[1m?: there is no such file" bin/$tool "$table" "$work/"$'\033[1m\177'
   refused "$named.table byte 42220: this row is cut off, a row has 20 bytes" bin/$tool "$broken.table" "$zone"
-  refused "$named.empty row 0: refused 1, $first_row" bin/$tool "$broken.empty" "$zone"
+  refused "$named.empty: refused 1, the table has fewer than 2 rows" bin/$tool "$broken.empty" "$zone"
   refused "$named.cells line 2, byte 1: a line has one cell, 1 to 16 hexadecimal digits, with or without 0x" bin/$tool "$table" "$broken.cells"
   refused "$tool: argument 1, --two?lines, is no option (a file of that name is given as ./--two?lines); $tool --help says more" bin/$tool $'--two\nlines' "$table" "$zone"
 done

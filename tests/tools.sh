@@ -55,7 +55,7 @@ ends() {
   if [ "$status" -eq 0 ]; then [ ! -s "$work/err" ]; else [ "$status" -eq 1 ] && [ "$(wc -l <"$work/err")" -eq 1 ] && [ ! -s "$work/out" ]; fi || fault "$*"
 }
 
-# ---- what is damaged: a table cut off, empty, one row too long, with a row out of order; lists of all kinds
+# ---- what is damaged: tables cut off, empty, a row too long, out of order, and with row 5 breaking each rule; a file too long; lists of all kinds
 
 head -c 42235 "$table" >"$work/cut.table"
 : >"$work/empty"
@@ -74,6 +74,7 @@ patched itself 8 '\x05\x00\x00\x00'
 patched back 8 '\x06\x00\x00\x00'
 patched term 12 '\x00\x00\x00\x00\x00\x00\xf8\x7f'
 yes x | head -c 1500000 >"$work/long"
+head -c 1310740 /dev/zero >"$work/rows.table"
 head -c 4000 /bin/sh >"$work/binary"
 printf '8928308280fffff\r\n# a comment\n\n 0x8928308283bffff  # another\n' >"$work/good.cells"
 printf '8928308280fffff\nxyz\n' >"$work/word.cells"
@@ -88,7 +89,13 @@ seq 1 16385 | sed 's/.*/8928308280fffff/' >"$work/many.cells"
 
 # ---- outline
 
-same crates/outline/stdout bin/outline crates/outline/data/city.table crates/outline/data/zone.cells
+# The samples are those that the programs of crates/ run on.
+for copy in outline/data/city.table outline/data/zone.cells till_import/data/market.cells till_import/data/streets.cells year_audit/data/year.feed; do
+  run cmp "crates/$copy" "samples/$(basename "$copy")"
+  [ "$status" -eq 0 ] || fault "samples/$(basename "$copy") is not that of crates/$copy"
+done
+
+same crates/outline/stdout bin/outline "$table" "$zone"
 tells 'polygons 2' bin/outline "$table" "$zone"
 tells 'rings 3' bin/outline --mode even "$table" "$zone"
 tells 'standing edges 90' bin/outline "$table" --mode mixed "$zone"
@@ -103,6 +110,7 @@ tells 'standing edges 0' bin/outline "$table" "$work/empty"
 tells 'closed: no edge stands' bin/outline crates/worked_examples/data/world_r0.table "$work/world.cells"
 tells 'cells 122' bin/outline crates/worked_examples/data/world_r0.table "$work/world.cells"
 refused 'outline: --mode is the last argument, and even or mixed has to follow; outline --help says more' bin/outline "$table" "$zone" --mode
+tells 'standing edges 18' bin/outline --mode even --mode mixed "$table" "$work/coarser.cells"
 refused 'outline: argument 4, odd, is no mode, which is even or mixed; outline --help says more' bin/outline "$table" "$zone" --mode odd
 refused 'outline: argument 2, --rows, is no mode, which is even or mixed; outline --help says more' bin/outline --mode --rows "$table" "$zone"
 
@@ -145,6 +153,7 @@ command_lines till_import 'a TABLE and one CELLS file or more' 'TABLE CELLS...'
 command_lines year_audit 'a TABLE and a FEED file' 'TABLE FEED' even
 for tool in till_import year_audit; do
   refused "$tool: argument 1, --rows, is no option (a file of that name is given as ./--rows); $tool --help says more" bin/$tool --rows "$table" "$zone"
+  refused "$tool: argument 1, --mode, is no option (a file of that name is given as ./--mode); $tool --help says more" bin/$tool --mode even "$table" "$zone"
 done
 
 # ---- an answer that cannot be written is not lost without a word
@@ -175,6 +184,7 @@ for tool in outline till_import year_audit; do
   refused "$too_long_name: this file cannot be read" bin/$tool "$too_long_name" "$zone"
   refused "$work/long byte 1441792: this file is too long" bin/$tool "$work/long" "$zone"
   refused "$work/cut.table byte 42220: this row is cut off, a row has 20 bytes" bin/$tool "$work/cut.table" "$zone"
+  refused "$work/rows.table: this table has more than 65536 rows" bin/$tool "$work/rows.table" "$zone"
   refused "$work/empty: refused 1, the table has fewer than 2 rows" bin/$tool "$work/empty" "$zone"
   refused "$work/empty: refused 1, the table has fewer than 2 rows" bin/$tool "$work/empty" "$work/none"
   refused "$work/unordered.table row 2112, byte 42240: refused 1, this row is not above the one before it" bin/$tool "$work/unordered.table" "$zone"
@@ -242,6 +252,21 @@ if "${other[@]}" test -r "$home/$table" 2>/dev/null; then
 else
   echo "a file that may not be read was left out: no setpriv, or no folder that another user reaches"
 fi
+
+# ---- a tool that a signal ends is told by the exit status, and a file that was read is closed
+
+mkdir -p "$work/ended/crates" "$work/ended/target/bin"
+touch "$work/ended/crates.txt"
+cp -R -P bin "$work/ended"
+printf '#!/usr/bin/env bash\nkill -SEGV $$\n' >"$work/ended/target/bin/outline"
+chmod +x "$work/ended/target/bin/outline"
+run "$work/ended/bin/outline" "$table" "$zone"
+[ "$status" -eq 139 ] || fault 'a tool that a signal ends'
+few_open() {
+  (ulimit -n 16 && bin/till_import "$table" $(yes samples/market.cells | head -n 40))
+}
+run few_open
+[ "$status" -eq 0 ] && [ ! -s "$work/err" ] && [ "$(grep -c '^samples/market.cells: outline' "$work/out")" -eq 40 ] || fault 'forty lists with sixteen files open at most'
 
 # ---- names and words with a line end, and with other control bytes: one line, with a question mark for each
 

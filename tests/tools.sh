@@ -184,7 +184,7 @@ for tool in outline till_import year_audit; do
   refused "$too_long_name: this file cannot be read" bin/$tool "$too_long_name" "$zone"
   refused "$work/long byte 1441792: this file is too long" bin/$tool "$work/long" "$zone"
   refused "$work/cut.table byte 42220: this row is cut off, a row has 20 bytes" bin/$tool "$work/cut.table" "$zone"
-  refused "$work/rows.table: this table has more than 65536 rows" bin/$tool "$work/rows.table" "$zone"
+  refused "$work/rows.table byte 1310720: this table has more than 65536 rows" bin/$tool "$work/rows.table" "$zone"
   refused "$work/empty: refused 1, the table has fewer than 2 rows" bin/$tool "$work/empty" "$zone"
   refused "$work/empty: refused 1, the table has fewer than 2 rows" bin/$tool "$work/empty" "$work/none"
   refused "$work/unordered.table row 2112, byte 42240: refused 1, this row is not above the one before it" bin/$tool "$work/unordered.table" "$zone"

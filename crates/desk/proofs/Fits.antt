@@ -33,9 +33,9 @@ bytes-within {m = m} e h = subst (λ (r : FileRead). bytesRead r ≤ m) e h
 few-rows : (room : ℕ) (b : List ℕ) → countOf (rowsLoaded (fileOf room b)) ≤ room
 unfolding fileOf
 few-rows room b = ⊎-elim
-    (λ e. rw e (⊎-elim (λ l. rw l (leb-true (rowsIn b) room l)) (λ l. rw l (omega arith)) (either (leb (rowsIn b) room))))
-    (λ e. rw e (omega arith))
-    (either (eqb (length b % 20) 0))
+    (λ l. rw l (⊎-elim (λ e. rw e (leb-true (rowsIn b) room l)) (λ e. rw e (omega arith)) (either (eqb (length b % 20) 0))))
+    (λ l. rw l (omega arith))
+    (either (leb (rowsIn b) room))
 
 few-loaded : (c : Came) (t : Table) → countOf (tableLoaded c t .answer) ≤ roomOf t
 unfolding tableLoaded

@@ -45,7 +45,7 @@ pub record TableLoad : Type 0 where
 abbrev pub rowsLoaded : TableFile → Loaded
 rowsLoaded (file.Rows n) = Count n
 rowsLoaded (file.CutOff place) = Nothing
-rowsLoaded file.TooMany = Nothing
+rowsLoaded (file.TooMany place) = Nothing
 
 -- The rows of the file over the start of the slices, and how many; where none came, one is cut off, or they find no room, nothing is changed.
 unfoldable pub tableLoaded : Came → Table → TableLoad

@@ -44,7 +44,7 @@ fn rows_loaded(file: TableFile) -> Loaded
     match file {
         TableFile::Rows(rows) => Loaded::Count(rows),
         TableFile::CutOff(_) => Loaded::Nothing,
-        TableFile::TooMany => Loaded::Nothing,
+        TableFile::TooMany(_) => Loaded::Nothing,
     }
 }
 

@@ -45,9 +45,9 @@ module _ (name : List ℕ) where
     unfolding tableFaultText oneLine
     cut-off-line place = name-line name _ (number-line place _ refl)
 
-    pub rows-line : oneLine (tableFaultText name room file.TooMany) ≡ true
-    unfolding tableFaultText oneLine
-    rows-line = name-line name _ (number-line room _ refl)
+    pub rows-line : (place : ℕ) → oneLine (tableFaultText name room (file.TooMany place)) ≡ true
+    unfolding tableFaultText unbroken oneLine
+    rows-line place = line-behind (shown name ++ noted (ascii " byte ") place (ascii "")) _ (name-unbroken name _ (number-unbroken place _ refl)) (number-line room _ refl)
 
     pub fault-line : (line : ℕ) (what : Wrong) → oneLine (listFaultText name room (ending.Fault line what)) ≡ true
     unfolding listFaultText

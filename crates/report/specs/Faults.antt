@@ -30,7 +30,8 @@ tooLongText name room = shown name ++ noted (ascii " byte ") room (ascii ": this
 unfoldable pub tableFaultText : List ℕ → ℕ → TableFile → List ℕ
 tableFaultText name room (file.Rows n) = []
 tableFaultText name room (file.CutOff place) = shown name ++ noted (ascii " byte ") place (ascii ": this row is cut off, a row has 20 bytes\n")
-tableFaultText name room file.TooMany = shown name ++ noted (ascii ": this table has more than ") room (ascii " rows\n")
+tableFaultText name room (file.TooMany place) =
+    shown name ++ noted (ascii " byte ") place (ascii "") ++ noted (ascii ": this table has more than ") room (ascii " rows\n")
 
 -- the byte of a line, and what is wrong there
 unfoldable pub wrongText : Wrong → List ℕ

@@ -63,9 +63,16 @@ pub fn put_table_fault(
                 b": this row is cut off, a row has 20 bytes\n",
             )
         }
-        TableFile::TooMany => {
+        TableFile::TooMany(place) => {
             let named = put_shown(out, at, name);
-            put_noted(out, named, b": this table has more than ", room, b" rows\n")
+            let placed = put_noted(out, named, b" byte ", place, b"");
+            put_noted(
+                out,
+                placed,
+                b": this table has more than ",
+                room,
+                b" rows\n",
+            )
         }
     }
 }

@@ -1,10 +1,10 @@
 -- Rows decoded over the start of three slices.
 --     rows-over    the three lent parts, come back, are the table over what was there
 --     in-room      rows that fit the room fit each slice
---     cut-off, rows-fit, too-many     what a file is, by its length
+--     too-many, cut-off, rows-fit     what a file is, by its length
 --     table-read, table-refused       what the reader promises, by whether the rows fit
 -- Assumes nothing.
-use Prim.Native.Nat.{ℕ, _-_, _%_, _≤_, _<_, min}
+use Prim.Native.Nat.{ℕ, _-_, _*_, _%_, _≤_, _<_, min}
 use mathlib.Core.Path.{_≡_, refl, sym, _∙_, ap}
 use mathlib.Core.Bool.{Bool, true, false, _&&_, cond}
 use mathlib.Core.List.{List, _++_}
@@ -46,17 +46,17 @@ in-room b t {room} e h =
     (omega arith, omega arith, omega arith)
 
 module _ (b : List ℕ) (room : ℕ) where
-  pub cut-off : (length b % 20 ≡ 0 → ⊥) → CutOff (length b - length b % 20) ≡ fileOf room b
+  pub too-many : room < rowsIn b → TooMany (room * 20) ≡ fileOf room b
   unfolding fileOf
-  cut-off h = rw (ne-eqb (length b % 20) 0 h) refl
+  too-many k = rw (lt-leb (rowsIn b) room k) refl
 
-  pub rows-fit : length b % 20 ≡ 0 → rowsIn b ≤ room → Rows (rowsIn b) ≡ fileOf room b
+  pub cut-off : rowsIn b ≤ room → (length b % 20 ≡ 0 → ⊥) → CutOff (length b - length b % 20) ≡ fileOf room b
   unfolding fileOf
-  rows-fit h k = rw (eq-eqb (length b % 20) 0 h, le-leb (rowsIn b) room k) refl
+  cut-off k h = rw (le-leb (rowsIn b) room k, ne-eqb (length b % 20) 0 h) refl
 
-  pub too-many : length b % 20 ≡ 0 → room < rowsIn b → TooMany ≡ fileOf room b
+  pub rows-fit : rowsIn b ≤ room → length b % 20 ≡ 0 → Rows (rowsIn b) ≡ fileOf room b
   unfolding fileOf
-  too-many h k = rw (eq-eqb (length b % 20) 0 h, lt-leb (rowsIn b) room k) refl
+  rows-fit k h = rw (le-leb (rowsIn b) room k, eq-eqb (length b % 20) 0 h) refl
 
 -- the room was reckoned from the three lengths
 pub room-is : (t : Table) {k room : ℕ} → k ≡ min (length (t .edges)) (length (t .reverse)) → room ≡ min k (length (t .area)) → room ≡ roomOf t

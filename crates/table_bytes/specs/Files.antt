@@ -1,6 +1,6 @@
 -- The bytes of a table file: whole rows of 20 bytes, at most as many as there is room for.
 -- Assumes nothing.
-use Prim.Native.Nat.{ℕ, _-_, _%_, min}
+use Prim.Native.Nat.{ℕ, _-_, _*_, _%_, min}
 use mathlib.Core.Path.{_≡_}
 use mathlib.Core.Bool.{Bool, _&&_, cond}
 use mathlib.Core.List.{List}
@@ -16,9 +16,9 @@ use Rattle.table_bytes.specs.declared.TableFile.the-variants.{Rows, CutO
 abbrev pub tableFits : ℕ → List ℕ → Bool
 tableFits room b = eqb (length b % 20) 0 && leb (rowsIn b) room
 
--- A row that is cut off begins at the byte that is named, counted from 0.
+-- The first fault: a row that is cut off, or the first that there is no room for, begins at the byte that is named, counted from 0.
 unfoldable pub fileOf : ℕ → List ℕ → TableFile
-fileOf room b = cond (eqb (length b % 20) 0) (cond (leb (rowsIn b) room) (Rows (rowsIn b)) TooMany) (CutOff (length b - length b % 20))
+fileOf room b = cond (leb (rowsIn b) room) (cond (eqb (length b % 20) 0) (Rows (rowsIn b)) (CutOff (length b - length b % 20))) (TooMany (room * 20))
 
 -- the rows over the start of a table's slices
 unfoldable pub overTable : Table → Table → Table

@@ -8,25 +8,26 @@ ghost use Rattle.scope.specs.Table.{table};
 ghost use Rattle.scope.specs.Bytes.{rowsIn, tableIn};
 ghost use Rattle.table_bytes.specs.Files.{fileOf, overTable, TableRead};
 
-// So many rows; a row that is cut off, by the byte that it begins at; or more rows than there is room for.
+// So many rows; a row that is cut off, or the first that there is no room for, by the byte that it begins at.
 pub enum TableFile {
     Rows(usize),
     CutOff(usize),
-    TooMany,
+    TooMany(usize),
 }
 
 // What a file of so many bytes is.
 fn file_of(bytes: &[u8], room: usize) -> TableFile
     ensures { λ r. ⌜ r ≡ fileOf room (now (bytes .entry)) ⌝ }
 {
+    let whole = bytes.len() / 20;
+    if room < whole {
+        return TableFile::TooMany(room * 20);
+    }
     let rest = bytes.len() % 20;
     if rest != 0 {
         return TableFile::CutOff(bytes.len() - rest);
     }
-    if bytes.len() / 20 <= room {
-        return TableFile::Rows(bytes.len() / 20);
-    }
-    TableFile::TooMany
+    TableFile::Rows(whole)
 }
 
 // The rows of `bytes` into the start of the slices.

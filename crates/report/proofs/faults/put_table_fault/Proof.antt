@@ -24,8 +24,8 @@ slice-aggregate-put-noted-2 c = search needs
 put-noted-requires : tie.Need-put-noted-requires
 put-noted-requires c κs = search needs
 
-enum-told-2 : tie.Need-enum-told-2
-enum-told-2 c = search needs
+enum-known-file-2 : tie.Need-enum-known-file-2
+enum-known-file-2 c = search needs
 
 put-shown-requires-2 : tie.Need-put-shown-requires-2
 put-shown-requires-2 c κs = search needs
@@ -38,6 +38,15 @@ slice-aggregate-put-noted-4 c = search needs
 
 put-noted-requires-2 : tie.Need-put-noted-requires-2
 put-noted-requires-2 c κs = search needs
+
+slice-aggregate-put-noted-5 : tie.Need-slice-aggregate-put-noted-5
+slice-aggregate-put-noted-5 c = search needs
+
+slice-aggregate-put-noted-6 : tie.Need-slice-aggregate-put-noted-6
+slice-aggregate-put-noted-6 c = search needs
+
+put-noted-requires-3 : tie.Need-put-noted-requires-3
+put-noted-requires-3 c κs = search needs
 
 returns : tie.Need-returns
 unfolding tableFaultText
@@ -55,7 +64,7 @@ same-length-2 c = search needs
 
 returns-3 : tie.Need-returns-3
 unfolding tableFaultText
-returns-3 c = rw (c .before .before .before .before .before .before .before .before .before .before .enum-told2 .given .1) (wrote-more (c .before .before .before .before .before .before .before .before .put-shown2 .ensures) (c .before .before .put-noted2 .ensures))
+returns-3 c = rw (c .before .before .before .before .before .before .before .before .before .before .before .before .before .before .before .before .before .file2 .given .1) (wrote-more (wrote-more (c .before .before .before .before .before .before .before .before .before .before .before .before .before .before .put-shown2 .ensures) (c .before .before .before .before .before .before .before .before .put-noted2 .ensures)) (c .before .before .put-noted3 .ensures))
 
 pub put-table-fault-spec : {M : Type 1} → statement M
 put-table-fault-spec =
@@ -67,11 +76,14 @@ put-table-fault-spec =
     slice-aggregate-put-noted
     slice-aggregate-put-noted-2
     put-noted-requires
-    enum-told-2
+    enum-known-file-2
     put-shown-requires-2
     slice-aggregate-put-noted-3
     slice-aggregate-put-noted-4
     put-noted-requires-2
+    slice-aggregate-put-noted-5
+    slice-aggregate-put-noted-6
+    put-noted-requires-3
     returns
     same-length
     returns-2

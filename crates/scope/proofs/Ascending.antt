@@ -24,7 +24,7 @@ module _ {le : ℕ → ℕ → Bool} (O : Order le) where
   ascends_at (x ∷ y ∷ l) a (suc i) (suc j) h k = ascends_at (y ∷ l) a.1 i j (omega arith) (omega arith)
 
   pub first_least : (d q : ℕ) (l : List ℕ) → Ascends le l → Memᴰ q l → le (head_or d l) q ≡ true
-  first_least d q [] a i = absurd (Memᴰ.not_nil i)
+  first_least d q [] a i = absurd (Memᴰ.not-nil i)
   first_least d q (x ∷ l) a i = go (place i)
     where
       go : (j : ℕ) × (j < suc (length l)) × (at (x ∷ l) j ≡ q) → le x q ≡ true

@@ -76,7 +76,7 @@ module _ {t : Table} {m : Memory} (S : Sound t m) where
         parent = record { long = l.parent; low = P.parent };
         rank = record { long = l.rank; low = P.rank };
         cell_mark = record { long = l.cell_mark; low = clear m.cell_mark g.cell_marks };
-        slot_row = record { long = refl; low = slot_low m.slot_row refl (λ s h u. let w = g.slot_used s h u in omega (arith, w.row_in, w.row_is)) (λ s h z. z) };
+        slot_row = record { long = refl; low = slot_low m.slot_row refl (λ s h u. let w = g.slot_used s h u in omega (arith, w.row_within, w.row_is)) (λ s h z. z) };
         slot_cell = record { long = l.slot_cell; low = slot_low m.slot_cell l.slot_cell (λ s h u. let w = (g.slot_used s h u).cell_held in omega arith) (λ s h z. (g.slot_free s h z).cell_clear) };
         prev = record { long = l.prev; low = slot_low m.prev l.prev (λ s h u. let w = (g.slot_used s h u).prev_in in omega arith) (λ s h z. (g.slot_free s h z).prev_clear) };
         next = record { long = l.next; low = slot_low m.next l.next (λ s h u. let w = (g.slot_used s h u).next_in in omega arith) (λ s h z. (g.slot_free s h z).next_clear) };

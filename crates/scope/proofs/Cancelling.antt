@@ -25,7 +25,7 @@ use Rattle.scope.proofs.Below.{tabulate_at}
 use Rattle.scope.proofs.Lands.{lands_to, lands_map}
 use Rattle.scope.proofs.Successor.{Reverses}
 use Rattle.scope.proofs.Returns.{Over, turned, returns, returned_in, returned_stays, returned_back}
-use Rattle.scope.proofs.Linked.{at_in, Used, Has, has_true, has_false, Linked, has_in, slot_used, row_has, row_slot, slot_row, cancels_used, cancels_has, cancels_from, stays_used, stays_none, stays_from, stays_not, stays_rest, mate_cancels, linked_paired}
+use Rattle.scope.proofs.Linked.{at_in, Used, Has, has_true, has_false, Linked, has_in, slot_used, row_has, row_slot, cancels_used, cancels_has, cancels_from, stays_used, stays_none, stays_from, stays_not, stays_rest, mate_cancels, linked_paired}
 
 -- ---- a list made place by place
 

@@ -79,7 +79,7 @@ orbit_mem f (suc k) x (suc i) h = Memᴰ.tail (orbit_mem f k (f x) i (omega arit
 
 pub mem_orbit : (f : ℕ → ℕ) (k x a : ℕ) → Memᴰ a (orbit f k x) → (i : ℕ) × (i < k) × (a ≡ iter f i x)
 unfolding orbit iter
-mem_orbit f zero x a m = absurd (Memᴰ.not_nil m)
+mem_orbit f zero x a m = absurd (Memᴰ.not-nil m)
 mem_orbit f (suc k) x a m = go (λ i. mem_orbit f k (f x) a i) (Memᴰ.cases_cons m)
   where
     go : (Memᴰ a (orbit f k (f x)) → (i : ℕ) × (i < k) × (a ≡ iter f i (f x))) → (a ≡ x) ⊎ Memᴰ a (orbit f k (f x)) → (i : ℕ) × (i < suc k) × (a ≡ iter f i x)

@@ -30,7 +30,7 @@ use Rattle.scope.proofs.Drawn.{ring_from, drawn_before, drawn, drawn_rings, laid
 
 laid_mem : (f : ℕ → List ℕ) (l : List ℕ) {a : ℕ} → Memᴰ a (laid (map f l)) → (r : ℕ) × Memᴰ r l × Memᴰ a (f r)
 unfolding laid
-laid_mem f [] i = absurd (Memᴰ.not_nil i)
+laid_mem f [] i = absurd (Memᴰ.not-nil i)
 laid_mem f (r ∷ l) {a} i = go (λ j. laid_mem f l j) (Memᴰ.append_cases (f r) i)
   where
     go : (Memᴰ a (laid (map f l)) → (q : ℕ) × Memᴰ q l × Memᴰ a (f q)) → Memᴰ a (f r) ⊎ Memᴰ a (laid (map f l))
@@ -38,7 +38,7 @@ laid_mem f (r ∷ l) {a} i = go (λ j. laid_mem f l j) (Memᴰ.append_cases (f r
     go ih (inl j) = (r, Memᴰ.head refl, j)
     go ih (inr j) = let z = ih j in (z.0, Memᴰ.tail z.1, z.2)
 
-mem_laid : {ls : List (List ℕ)} {l : List ℕ} {a : ℕ} → Memᴰ l ls → Memᴰ a l → Memᴰ a (laid ls)
+mem_laid : {l : List ℕ} {ls : List (List ℕ)} {a : ℕ} → Memᴰ l ls → Memᴰ a l → Memᴰ a (laid ls)
 unfolding laid
 mem_laid {a = a} (Memᴰ.head {xs = ls} e) i = Memᴰ.append_left (laid ls) (subst (Memᴰ a) e i)
 mem_laid (Memᴰ.tail {x = k} j) i = Memᴰ.append_right k (mem_laid j i)

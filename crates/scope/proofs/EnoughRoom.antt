@@ -41,7 +41,7 @@ use Rattle.scope.proofs.Run.{opened_shown, all_shown}
 
 in_ring : (v : View) (l : List ℕ) (a : ℕ) → Memᴰ a (edge_rows v l) → (r : ℕ) × Memᴰ r l × Memᴰ a (ring_at v r)
 unfolding edge_rows
-in_ring v [] a i = absurd (Memᴰ.not_nil i)
+in_ring v [] a i = absurd (Memᴰ.not-nil i)
 in_ring v (r ∷ l) a i = go (λ j. in_ring v l a j) (Memᴰ.append_cases (ring_at v r) i)
   where
     go : (Memᴰ a (edge_rows v l) → (q : ℕ) × Memᴰ q l × Memᴰ a (ring_at v q)) → Memᴰ a (ring_at v r) ⊎ Memᴰ a (edge_rows v l)

@@ -3,7 +3,7 @@
 --     slots_enough    so that 7 is never given: an offer that gets to its outline is refused by 5 or 6 alone
 -- Assumes nothing.
 use Prim.Native.Nat.{ℕ, suc, ◌+◌, ◌≤◌, ◌<◌}
-use mathlib.Core.Path.{◌≡◌, refl, sym, ◌∙◌, ap, subst}
+use mathlib.Core.Path.{◌≡◌, refl, sym, ◌∙◌, ap}
 use mathlib.Core.Bool.{Bool, true, false, not}
 use mathlib.Core.List.{List, [], ◌∷◌, ◌++◌, Memᴰ}
 use native.Mathlib.Omega.{arith}
@@ -57,7 +57,7 @@ module _ {t : Table} {m : Memory} (S : Sound t m) (x : ℕ) (cell : cell_verdict
       let last : held m < length more = omega arith in
       let old : Owned owner (at more c) = rw (more_old c l) (owned_test _ _ w.owned) in
       let valid = good.valid (held m) last in
-      let new : Owned owner (at more (held m)) = outline_owned t (at more (held m)) (row_in m s) valid (rw more_new i) w.row_in in
+      let new : Owned owner (at more (held m)) = outline_owned t (at more (held m)) (row_in m s) valid (rw more_new i) w.row_within in
       let same = one_cell owner (at more c) (at more (held m)) (good.valid c first) valid (good.apart c (held m) first last) (good.apart (held m) c last first) old new in
       let e = good.once c (held m) first last same in
       omega arith
@@ -75,7 +75,7 @@ module _ {t : Table} {m : Memory} (S : Sound t m) (x : ℕ) (cell : cell_verdict
       let theirs = one_to_one (row_in m) used (below (λ a. not (member a o)) (row_count t)) (below_fresh (is_used m) (slots m))
       (λ s i.
       let q = mem_below (is_used m) (slots m) s i in
-      below_mem (λ a. not (member a o)) (row_count t) (row_in m s) (S.rules.slot_used s q.0 (true_used m s q.1)).row_in
+      below_mem (λ a. not (member a o)) (row_count t) (row_in m s) (S.rules.slot_used s q.0 (true_used m s q.1)).row_within
       (ap not (member_false (row_in m s) o (rows_apart s q.0 q.1))))
       (λ s u i j e.
       let q = mem_below (is_used m) (slots m) s i in let p = mem_below (is_used m) (slots m) u j in

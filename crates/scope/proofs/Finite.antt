@@ -37,7 +37,7 @@ module _ (n : ℕ) (U S : ℕ → Type 0) (f : ℕ → ℕ) (st : Steps n U S f)
   trail_in (pass {x = x} m t) = st.keeps x (trail_in t) m
 
   trail_all : {x w : ℕ} {l : List ℕ} → Trail S f x₀ x l → Memᴰ w l → U w × (S w → ⊥)
-  trail_all start i = absurd (Memᴰ.not_nil i)
+  trail_all start i = absurd (Memᴰ.not-nil i)
   trail_all {w = w} (pass {x = x} {l = l} m t) i = go (λ j. trail_all t j) (Memᴰ.cases_cons i)
     where
       go : (Memᴰ w l → U w × (S w → ⊥)) → (w ≡ x) ⊎ Memᴰ w l → U w × (S w → ⊥)
@@ -49,7 +49,7 @@ module _ (n : ℕ) (U S : ℕ → Type 0) (f : ℕ → ℕ) (st : Steps n U S f)
     where
       go : (w ≡ x₀) ⊎ Memᴰ w [] → (w ≡ x₀) ⊎ ((v : ℕ) × Memᴰ v [] × (f v ≡ w))
       go (inl e) = inl e
-      go (inr j) = absurd (Memᴰ.not_nil j)
+      go (inr j) = absurd (Memᴰ.not-nil j)
   origin {w = w} (pass {x = x} {l = l} m t) i = go (λ j. origin t j) (Memᴰ.cases_cons i)
     where
       up : (w ≡ x₀) ⊎ ((v : ℕ) × Memᴰ v l × (f v ≡ w)) → (w ≡ x₀) ⊎ ((v : ℕ) × Memᴰ v (x ∷ l) × (f v ≡ w))
@@ -62,7 +62,7 @@ module _ (n : ℕ) (U S : ℕ → Type 0) (f : ℕ → ℕ) (st : Steps n U S f)
       go ih (inr j) = up (ih j)
 
   trail_fresh : {x : ℕ} {l : List ℕ} → Trail S f x₀ x l → Fresh (x ∷ l)
-  trail_fresh start = (Memᴰ.not_nil, tt)
+  trail_fresh start = (Memᴰ.not-nil, tt)
   trail_fresh (pass {x = x} {l = l} m t) = (λ i. go (trail_fresh t) (origin t i), trail_fresh t)
     where
       go : Fresh (x ∷ l) → (f x ≡ x₀) ⊎ ((v : ℕ) × Memᴰ v l × (f v ≡ f x)) → ⊥

@@ -42,7 +42,7 @@ place (Memᴰ.head e) = (0, omega arith, sym e)
 place (Memᴰ.tail m) = let r = place m in (suc r.0, omega (arith, r.1), r.2)
 
 pub mem_dec : (a : ℕ) (l : List ℕ) → Dec (Memᴰ a l)
-mem_dec a [] = no Memᴰ.not_nil
+mem_dec a [] = no Memᴰ.not-nil
 mem_dec a (x ∷ l) = go (ℕ_discrete a x) (mem_dec a l)
   where
     go : Dec (a ≡ x) → Dec (Memᴰ a l) → Dec (Memᴰ a (x ∷ l))
@@ -92,7 +92,7 @@ fresh_at (x ∷ l) f (suc i) (suc j) h k e = ap suc (fresh_at l f.1 i j (omega a
 
 -- one more at the end
 pub fresh_last : (l : List ℕ) (x : ℕ) → Fresh l → (Memᴰ x l → ⊥) → Fresh (l ++ (x ∷ []))
-fresh_last [] x f n = (Memᴰ.not_nil, tt)
+fresh_last [] x f n = (Memᴰ.not-nil, tt)
 fresh_last (y ∷ l) x f n = (λ m. go (Memᴰ.append_cases l m), fresh_last l x f.1 (λ m. n (Memᴰ.tail m)))
   where
     go : Memᴰ y l ⊎ Memᴰ y (x ∷ []) → ⊥
@@ -127,7 +127,7 @@ below_mem ok (suc n) a h e = cases a n
 
 pub mem_below : (ok : ℕ → Bool) (n a : ℕ) → Memᴰ a (below ok n) → (a < n) × (ok a ≡ true)
 unfolding below
-mem_below ok zero a m = absurd (Memᴰ.not_nil m)
+mem_below ok zero a m = absurd (Memᴰ.not-nil m)
 mem_below ok (suc n) a m =
     ⊎_elim
     (λ t. last t (λ k. mem_below ok n a k) (Memᴰ.append_cases (below ok n) (rw t at m)))

@@ -28,7 +28,7 @@ module _ (t : Table) (m : Memory) where
 
   pub met_in : (seen ss : List ℕ) (s : ℕ) → Memᴰ s (met_first t m seen ss) → Memᴰ s ss × (cancels t m s ≡ true)
   unfolding met_first
-  met_in seen [] s i = absurd (Memᴰ.not_nil i)
+  met_in seen [] s i = absurd (Memᴰ.not-nil i)
   met_in seen (k ∷ ss) s i = ⊎_elim
       (λ (e : (cancels t m k && not (member (reverse_slot t m k) seen)) ≡ true). here e (λ j. met_in (k ∷ seen) ss s j) (Memᴰ.cases_cons (rw e at i)))
       (λ (e : (cancels t m k && not (member (reverse_slot t m k) seen)) ≡ false). later (met_in (k ∷ seen) ss s (rw e at i)))
@@ -45,7 +45,7 @@ module _ (t : Table) (m : Memory) where
   pub met_first_lem : (seen ss : List ℕ) (s : ℕ) → Memᴰ s ss → cancels t m s ≡ true → (Memᴰ (reverse_slot t m s) seen → ⊥)
       → (Memᴰ (reverse_slot t m s) ss → ⊥) → Memᴰ s (met_first t m seen ss)
   unfolding met_first
-  met_first_lem seen [] s i c n k = absurd (Memᴰ.not_nil i)
+  met_first_lem seen [] s i c n k = absurd (Memᴰ.not-nil i)
   met_first_lem seen (a ∷ ss) s i c n k = go (Memᴰ.cases_cons i) (λ j. met_first_lem (a ∷ seen) ss s j c (λ q. past (Memᴰ.cases_cons q)) (λ q. k (Memᴰ.tail q)))
     where
       past : (reverse_slot t m s ≡ a) ⊎ Memᴰ (reverse_slot t m s) seen → ⊥
@@ -91,11 +91,11 @@ module _ (t : Table) (m : Memory) where
     where
       only : {A : Type 0} {i j : ℕ} → A ⊎ PairOf [] i j → A
       only (inl e) = e
-      only (inr (s, k, x, y)) = absurd (Memᴰ.not_nil k)
+      only (inr (s, k, x, y)) = absurd (Memᴰ.not-nil k)
   united_labels {E} n (s ∷ ss) u w h l =
       let q = h s (Memᴰ.head refl) in
       labelled_same (λ i j e. to i j e) (λ i j e. from i j e)
-      (united_labels n ss _ (uniting_keeps u.parents u.ranks n w _ _ q.0 q.1) (rest h) (uniting_labels u.parents u.ranks n w l _ _ q.0 q.1))
+      (united_labels {E = With E (at m.slot_cell s) (at m.slot_cell (reverse_slot t m s))} n ss _ (uniting_keeps u.parents u.ranks n w _ _ q.0 q.1) (rest h) (uniting_labels u.parents u.ranks n w l _ _ q.0 q.1))
     where
       c : ℕ
       c = at m.slot_cell s

@@ -6,7 +6,7 @@
 -- Assumes nothing.
 use mathlib.Core.Path.{◌≡◌, refl, sym, ◌∙◌, ap}
 use mathlib.Core.Bool.{Bool, true, false, not}
-use mathlib.Core.Logic.{◌⊎◌, ⊎_elim}
+use mathlib.Core.Logic.{⊎_elim}
 use mathlib.Core.List.{List, [], ◌∷◌, map, Memᴰ}
 use Prim.Native.Nat.{ℕ, suc, ◌<◌}
 use native.Mathlib.Omega.{arith}
@@ -40,7 +40,7 @@ module _ (ok : ℕ → Bool) where
 
   mem_keep : (l : List ℕ) {a : ℕ} → Memᴰ a (keep ok l) → Memᴰ a l × (ok a ≡ true)
   unfolding keep
-  mem_keep [] i = absurd (mathlib.Core.List.Memᴰ.not_nil i)
+  mem_keep [] i = absurd (mathlib.Core.List.Memᴰ.not-nil i)
   mem_keep (x ∷ l) {a} i = ⊎_elim
       (λ (e : ok x ≡ true). ⊎_elim (λ (q : a ≡ x). (mathlib.Core.List.Memᴰ.head q, ap ok q ∙ e))
       (λ (j : Memᴰ a (keep ok l)). let r = mem_keep l j in (mathlib.Core.List.Memᴰ.tail r.0, r.1)) (mathlib.Core.List.Memᴰ.cases_cons (rw e at i)))
@@ -64,7 +64,7 @@ all_mem P (x ∷ l) f = (f x (mathlib.Core.List.Memᴰ.head refl), all_mem P l (
 module _ (le : ℕ → ℕ → Bool) where
   -- it is a member, whatever would stand for an empty list
   first_is : (d e : ℕ) (l : List ℕ) {a : ℕ} → Memᴰ a l → (head_or d (sort_by le l) ≡ head_or e (sort_by le l)) × Memᴰ (head_or d (sort_by le l)) l
-  first_is d e [] i = absurd (mathlib.Core.List.Memᴰ.not_nil i)
+  first_is d e [] i = absurd (mathlib.Core.List.Memᴰ.not-nil i)
   first_is d e (x ∷ l) i =
       go (sort_by le (x ∷ l)) (sort_length le (x ∷ l)) (all_sort (λ a. Memᴰ a (x ∷ l)) le (x ∷ l) (all_mem (λ a. Memᴰ a (x ∷ l)) (x ∷ l) (λ a j. j)))
     where

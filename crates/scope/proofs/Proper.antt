@@ -60,7 +60,7 @@ module _ (t : Table) (len : length t.reverse ≡ row_count t) (good : passes (ro
 
 -- ---- given by cells
 
-pub given_of : (t : Table) {cs : List ℕ} {x : ℕ} (a : ℕ) → Memᴰ x cs → Memᴰ a (outline_rows t x) → GivenBy t cs a
+pub given_of : (t : Table) {x : ℕ} {cs : List ℕ} (a : ℕ) → Memᴰ x cs → Memᴰ a (outline_rows t x) → GivenBy t cs a
 given_of t a (Memᴰ.head e) m = inl (subst (λ (w : ℕ). Memᴰ a (outline_rows t w)) e m)
 given_of t a (Memᴰ.tail i) m = inr (given_of t a i m)
 
@@ -70,7 +70,7 @@ given_by t (x ∷ cs) a (inl m) = (x, Memᴰ.head refl, m)
 given_by t (x ∷ cs) a (inr g) = let r = given_by t cs a g in (r.0, Memᴰ.tail r.1, r.2)
 
 -- the next of a row is that in its own outline
-pub next_of_lem : (t : Table) {cs : List ℕ} {x : ℕ} (a : ℕ) → Apart (outlines t cs) → Memᴰ x cs → Memᴰ a (outline_rows t x)
+pub next_of_lem : (t : Table) {x : ℕ} {cs : List ℕ} (a : ℕ) → Apart (outlines t cs) → Memᴰ x cs → Memᴰ a (outline_rows t x)
     → next_of (outlines t cs) a ≡ next_in (outline_rows t x) a
 next_of_lem t {x = x} a A (Memᴰ.head {x = y} {xs = cs} e) m =
     next_of_new (outline_rows t y) (outlines t cs) a (subst (λ (w : ℕ). Memᴰ a (outline_rows t w)) e m) ∙ ap (λ (w : ℕ). next_in (outline_rows t w) a) (sym e)

@@ -65,7 +65,7 @@ mem_rotate (x ∷ l) a m = go (Memᴰ.append_cases l m)
 -- ---- the first members
 
 pub mem_take : (n : ℕ) (l : List ℕ) (a : ℕ) → Memᴰ a (take n l) → Memᴰ a l
-mem_take zero l a m = absurd (Memᴰ.not_nil m)
+mem_take zero l a m = absurd (Memᴰ.not-nil m)
 mem_take (suc n) [] a m = m
 mem_take (suc n) (x ∷ l) a m = go (λ i. mem_take n l a i) (Memᴰ.cases_cons m)
   where

@@ -28,7 +28,7 @@ pub record RowHeld (m : Memory) (r : ℕ) : Type 0 where
 -- A used slot has its row in range, that row points back to it, its cell number is held and the row's owner is that cell or lies under
 -- it; previous and next are used and inverse to each other; no row and its reverse are both held.
 pub record SlotUsed (t : Table) (m : Memory) (s : ℕ) : Type 0 where
-  pub row_in : row_in m s < row_count t
+  pub row_within : row_in m s < row_count t
   pub row_is : at m.slot_row s ≡ row_in m s + 1
   pub back : at m.row_slot (row_in m s) ≡ s + 1
   pub cell_held : at m.slot_cell s < held m
@@ -97,7 +97,7 @@ used_facts t m s e h =
     let before = both _ _ l₃.0 in let after = both _ _ l₃.1 in
     let r = one_less (at m.slot_row s) (row_count t) h (leb-true _ _ p.0) in
     record {
-      row_in = r.0;
+      row_within = r.0;
       row_is = r.1;
       back = eqb-true _ _ p.1;
       cell_held = ltb-true _ _ o.0;

@@ -1,6 +1,6 @@
 -- A state that has the facts of `RulesGood` passes the rules for 9.
 -- Assumes nothing.
-use Prim.Native.Nat.{ℕ, ◌-◌, ◌<◌, ◌≤◌}
+use Prim.Native.Nat.{ℕ, ◌<◌, ◌≤◌}
 use mathlib.Core.Path.{◌≡◌, refl, sym, ap}
 use mathlib.Core.Bool.{Bool, true, false, ◌||◌, not}
 use mathlib.Core.Logic.{⊎_elim}
@@ -36,7 +36,7 @@ row_test m r f = or_second (not (has_slot m r)) _ (λ e.
 used_test : (t : Table) (m : Memory) (s : ℕ) → (at m.slot_row s ≡ 0 → ⊥) → SlotUsed t m s → slot_kept t m s ≡ true
 unfolding slot_kept links_kept
 used_test t m s h u =
-    let r : at m.slot_row s ≤ row_count t = omega (arith, u.row_in) in
+    let r : at m.slot_row s ≤ row_count t = omega (arith, u.row_within) in
     let link : (k : ℕ) → k < slots m → (at m.slot_row k ≡ 0 → ⊥) → link_used m k ≡ true = λ k l n. and_both _ _ (lt-ltb _ _ l) (zero_not _ n) in
     rw (zero_not (at m.slot_row s) h)
     (and_both _ _

@@ -42,9 +42,9 @@ opened_shown t m mode e l = record {
   proper = record {
     reverses = sound_reverses (opened_sound t m mode e l);
     distinct = tt;
-    in_table = λ x a i. absurd (Memᴰ.not_nil i);
-    once = λ x i. absurd (Memᴰ.not_nil i);
-    apart = λ x y a i. absurd (Memᴰ.not_nil i);
+    in_table = λ x a i. absurd (Memᴰ.not-nil i);
+    once = λ x i. absurd (Memᴰ.not-nil i);
+    apart = λ x y a i. absurd (Memᴰ.not-nil i);
   };
   shows = opened_shows t m mode;
 }

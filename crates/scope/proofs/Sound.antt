@@ -142,7 +142,7 @@ module _ {t : Table} {m : Memory} {x : ℕ} (O : Offered t m x) where
       let y : at (held_cells m ++ (x ∷ [])) c ≡ at m.cells c = more_old c w.cell_held in
       let old : Owned (owner_of (at t.edges a)) (at (held_cells m ++ (x ∷ [])) c) =
       subst (λ (r : ℕ). Owned (owner_of (at t.edges r)) (at (held_cells m ++ (x ∷ [])) c)) row (rw y (owned_test _ _ w.owned)) in
-      let inside : a < row_count t = subst (λ (r : ℕ). r < row_count t) row w.row_in in
+      let inside : a < row_count t = subst (λ (r : ℕ). r < row_count t) row w.row_within in
       let new : Owned (owner_of (at t.edges a)) (at (held_cells m ++ (x ∷ [])) (held m)) = rw more_new (outline_owned t x a offered_valid i inside) in
       let same = one_cell (owner_of (at t.edges a)) _ _ (g.valid c k) (g.valid (held m) n) (g.apart c (held m) k n) (g.apart (held m) c n k) old new in
       let e = g.once c (held m) k n same in

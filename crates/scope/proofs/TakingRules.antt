@@ -68,7 +68,7 @@ module _ {t : Table} {m : Memory} {x : ℕ} (O : Offered t m x) where
       let cell = cell_left R (offered_linked O) C s e in
       let low : at (taking t m x).slot_cell s < suc (held m) = rw cell (placed_cell O s v) in
       record {
-        row_in = has_in L (row_in (taking t m x) s) (row_has L s u);
+        row_within = has_in L (row_in (taking t m x) s) (row_has L s u);
         row_is = plus (at (taking t m x).slot_row s) u;
         back = L.slot_held s u;
         cell_held = rw (taken_held O) low;

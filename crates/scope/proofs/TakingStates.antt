@@ -152,7 +152,7 @@ module _ {t : Table} {m : Memory} {x : ℕ} (O : Offered t m x) where
       let row = row_slot Lp a h in
       let mate : reverse_slot t p s ≡ slot_of p (reverse_of t a) = ap (λ (r : ℕ). slot_of p (reverse_of t r)) row in
       let c = cancels_from t p s (slot_used Lp a h) (subst (λ (r : ℕ). Has p (reverse_of t r)) (sym row) k) in
-      (s, met_first_lem t p [] (slots_for m o) s i c Memᴰ.not_nil (λ j. d (Memᴰ.cast (sym mate) j)), refl, ap (at p.slot_cell) (sym mate))
+      (s, met_first_lem t p [] (slots_for m o) s i c Memᴰ.not-nil (λ j. d (Memᴰ.cast (sym mate) j)), refl, ap (at p.slot_cell) (sym mate))
 
   -- a pair that cancels is met at one of its rows, or both are the new cell's
   pair_met : (a i j : ℕ) → Has p a → Has p (reverse_of t a) → at p.slot_cell (slot_of p a) ≡ i → at p.slot_cell (slot_of p (reverse_of t a)) ≡ j → Chain OneRootOrMet i j

@@ -167,7 +167,7 @@ edges_each : (P : ℕ → Type 0) (p : Bool) (x c t n : ℕ) (w : Walk) → Fine
     → ((v : Walk) → Fine v.positions → v.edge_position < 6 → passed_over p c t v ≡ false → P (edge_at x c t v))
     → (e : ℕ) → Memᴰ e (edges p x c t n w) → P e
 unfolding edges
-edges_each P p x c t zero w f s each e m = absurd (Memᴰ.not_nil m)
+edges_each P p x c t zero w f s each e m = absurd (Memᴰ.not-nil m)
 edges_each P p x c t (suc n) w f s each e m =
     pick P (passed_over p c t w) (edge_at x c t w) (edges p x c t n (step c t w)) e m (each w f s)
     (edges_each P p x c t n (step c t w) (step_fine c t w f) (step_turns c t w) each e)
@@ -180,5 +180,5 @@ outline_edges x t valid deep e m =
     (λ (h : c ≤ t).
     edges_each (OutlineEdge x t) (is_pentagon x) x c t (6 * 3 ^ (t - c)) (first_walk c t) (first_fine c t) (lit< tt)
     (λ v f s g. edge_holds x t v valid h deep f s g) e (rw (le-leb c t h) at m))
-    (λ (h : t < c). absurd (Memᴰ.not_nil (rw (lt-leb c t h) at m)))
+    (λ (h : t < c). absurd (Memᴰ.not-nil (rw (lt-leb c t h) at m)))
     (le_or_lt c t)

@@ -130,8 +130,8 @@ module _ {t : Table} {m k : Memory} {cs ds : List ℕ} (S : Shown t m cs) (T : S
     where
       none : (cs ds : List ℕ) → SameMembers cs ds → eqb (length ds) 0 ≡ eqb (length cs) 0
       none [] [] E = refl
-      none [] (y ∷ ds) E = absurd (Memᴰ.not_nil (E.1 y (Memᴰ.head refl)))
-      none (x ∷ cs) [] E = absurd (Memᴰ.not_nil (E.0 x (Memᴰ.head refl)))
+      none [] (y ∷ ds) E = absurd (Memᴰ.not-nil (E.1 y (Memᴰ.head refl)))
+      none (x ∷ cs) [] E = absurd (Memᴰ.not-nil (E.0 x (Memᴰ.head refl)))
       none (x ∷ cs) (y ∷ ds) E = ne_eqb (length (y ∷ ds)) 0 (omega arith) ∙ sym (ne_eqb (length (x ∷ cs)) 0 (omega arith))
 
 -- what two runs of calls over one table, each in a memory of its own, have left

@@ -1,7 +1,8 @@
 // What the calls answer. Everything else in this crate is definitions (specs/) and laws about them (proofs/).
+#![tactic(auto)]
 
 // A call that is carried out or refused: the refusal's number and the index that document 01 returns with it.
-#[derive(Drop)]
+#[derive(Clone, Copy)]
 pub enum Verdict {
     Accepted,
     Refused(usize, usize),
@@ -9,7 +10,7 @@ pub enum Verdict {
 
 // What read out and dissolve answer: no cells; cells, but no edge stands; or the polygon count,
 // the ring count and the first outer area. Or a refusal.
-#[derive(Drop)]
+#[derive(Clone, Copy)]
 pub enum ReadOut {
     Nothing,
     Closed,
@@ -18,7 +19,7 @@ pub enum ReadOut {
 }
 
 // The row of an edge in the table.
-#[derive(Drop)]
+#[derive(Clone, Copy)]
 pub enum Found {
     At(usize),
     Absent,

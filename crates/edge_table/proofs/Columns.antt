@@ -3,21 +3,20 @@
 --     columns_from      the passes over the columns, one by one
 --     none_bad          where every column passes, every row does
 -- Assumes nothing.
-use Prim.Native.Nat.{ℕ, ◌+◌, ◌-◌, ◌*◌, ◌/◌, ◌%◌, ◌^◌, ◌<◌, ◌≤◌}
-use mathlib.Core.Path.{◌≡◌, refl, sym, ◌∙◌, ap}
-use mathlib.Core.Bool.{Bool, true, false, ◌&&◌, not}
+use Prim.Native.Nat.{ℕ, ◌+◌, ◌-◌, ◌*◌, ◌/◌, ◌^◌, ◌<◌, ◌≤◌}
+use mathlib.Core.Path.{◌≡◌, sym, ◌∙◌, ap}
+use mathlib.Core.Bool.{Bool, true, ◌&&◌}
 use mathlib.Core.List.{List}
 use mathlib.Core.Logic.{⊎_elim}
 use native.Mathlib.Nat.{eq-or-lt_of_le}
 use native.Mathlib.Omega.{arith}
 use lib.Dec.{eqb, leb}
-use lib.ListN.{length, get_or}
-use lib.Ieee.{nan}
-use borrow.Author.Tests.{ne_eqb, eqb-true, le-leb, leb-true}
+use lib.ListN.{length}
+use borrow.Author.Tests.{eqb-true, le-leb, leb-true}
 use Rattle.scope.specs.Lists.{at, all, passes}
-use Rattle.scope.specs.Cells.{resolution_of, base_cell, digit_fits, is_pentagon, valid_edge}
-use Rattle.scope.specs.Table.{Table, row_count, target_of, has_target, is_finite, ascends, paired, row_good}
-use Rattle.scope.proofs.Tests.{either, same, and_left, and_right, and_both, and_false, le_or_lt}
+use Rattle.scope.specs.Cells.{resolution_of, base_cell, digit_fits, valid_edge}
+use Rattle.scope.specs.Table.{Table, row_count, target_of, has_target, ascends, paired, row_good}
+use Rattle.scope.proofs.Tests.{same, and_left, and_right, and_both}
 use Rattle.scope.proofs.Scan.{passes_at, passes_all}
 use Rattle.scope.proofs.Tables.{Ascending, ascending}
 use Rattle.scope.proofs.Edges.{valid_edge_is}

@@ -13,7 +13,7 @@ use native.Mathlib.Omega.{arith}
 use lib.Dec.{eqb, leb}
 use lib.ListN.{length}
 use lib.Pow.{pow_pos}
-use borrow.Author.Tests.{eq-eqb, ne_eqb, eqb-true, leb-true}
+use borrow.Author.Tests.{eq-eqb, eqb-true, leb-true}
 use Rattle.scope.specs.Lists.{at, member, passes}
 use Rattle.scope.specs.Cells.{resolution_of, base_cell, weight, pentagon_base_cells, is_pentagon}
 use Rattle.scope.proofs.Tests.{either, clash, and_left, and_right, and_both, and_false, le_or_lt}

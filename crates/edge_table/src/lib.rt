@@ -1,4 +1,6 @@
 // The edge table in lent memory: three slices, edge numbers, reverse rows and area terms. Its check.
+#![tactic(auto)]
+
 mod straight;
 
 ghost use Rattle.std.specs.Prelude.{◌≡◌};

@@ -1,5 +1,7 @@
 // An accurate adder of f64 (Kahan's): two floats, sum and correction, handed on by value. Each operation
 // of the Rust's `FloatAdder`, in its order, with one rounding.
+#![tactic(auto)]
+
 ghost use Rattle.std.specs.Prelude.{◌≡◌};
 ghost use Rattle.std.specs.Float.{binary64};
 ghost use Rattle.std.specs.Float.Ieee.{of_bits};
@@ -9,7 +11,7 @@ ghost use Rattle.fp_adder.specs.Adders.{adder_of};
 // The f64 of 4π, the area of the sphere.
 const FOUR_PI: f64 = 12.566370614359172;
 
-#[derive(Drop)]
+#[derive(Clone, Copy)]
 pub struct FloatAdder {
     sum: f64,
     correction: f64,

@@ -5,6 +5,8 @@
 // where the Rust steps up to there; so no later step is passed over but the one at delta 0. And the finest
 // level's position, which moves at every step, stands beside the array: the array is written at every third
 // step only, so that copies of the state by value cost little.
+#![tactic(auto)]
+
 ghost use Rattle.std.specs.Prelude.{◌≡◌, true, ◌<◌, ◌≤◌, length};
 ghost use Rattle.scope.specs.Cells.{resolution_of, valid_cell};
 ghost use Rattle.scope.specs.Walk.{step};
@@ -14,7 +16,7 @@ ghost use Rattle.gosper.specs.Walking.{walk_of, turned, next_walk, gosper_at, mo
 use walk_levels::start::{edge_count, start_levels};
 use walk_levels::{edge_direction, next_edge, next_position, set_digit, settle, walk_digit};
 
-#[derive(Drop)]
+#[derive(Clone, Copy)]
 pub struct Gosper {
     // The next edge, and how many are left.
     scratchpad: u64,
@@ -31,7 +33,7 @@ pub struct Gosper {
 }
 
 // An edge, and the walk after it.
-#[derive(Drop)]
+#[derive(Clone, Copy)]
 pub struct Stepped {
     pub edge: u64,
     pub walk: Gosper,

@@ -1,5 +1,7 @@
 // Cells and edges as numbers: the bit fields, which numbers are valid cells and edges, an edge's owner,
 // and which cell lies under which. Nothing here goes over the fifteen digits one by one.
+#![tactic(auto)]
+
 ghost use Rattle.std.specs.Prelude.{◌≡◌};
 ghost use Rattle.scope.specs.Lists.{all, member};
 ghost use Rattle.scope.specs.Cells.{edge_number, resolution_of, base_cell, digit_fits, valid_cell, pentagon_base_cells, is_pentagon, owner_of, valid_edge, under};

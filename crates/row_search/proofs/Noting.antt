@@ -4,7 +4,7 @@
 --     noting_start, noting_more, noting_done     begin; one more row; every row
 -- Assumes nothing.
 use Prim.Native.Nat.{ℕ, suc, ◌+◌, ◌*◌, ◌/◌, ◌^◌, ◌<◌, ◌≤◌}
-use mathlib.Core.Path.{◌≡◌, refl, sym, ◌∙◌, ap}
+use mathlib.Core.Path.{◌≡◌, refl, ◌∙◌, ap}
 use mathlib.Core.List.{List}
 use native.Mathlib.Nat.{mul_comm, mul-le-mul, mul-lt-mul_of_pos_right, div-lt_iff_lt-mul}
 use native.Mathlib.Omega.{arith}

@@ -12,7 +12,6 @@ use native.Mathlib.Nat.{pow-suc}
 use native.Mathlib.Omega.{arith}
 use lib.Dec.{leb}
 use borrow.Author.Tests.{lt-leb, leb-false}
-use Rattle.scope.specs.Lists.{first_bad}
 use Rattle.scope.proofs.Tests.{clash, le_or_lt}
 use Rattle.scope.proofs.Scan.{first_bad_lowest}
 use Rattle.row_search.specs.Turns.{Turn, Turns, halvings}

@@ -1,4 +1,6 @@
 // The row of an edge in a table in order, by halving; and notes that spare most of the searches.
+#![tactic(auto)]
+
 pub mod notes;
 
 ghost use Rattle.std.specs.Prelude.{◌≡◌, true, length};

@@ -1,5 +1,7 @@
 // Lent slices of 32-bit numbers, read and written as usize. Every layer above keeps its numbers so:
 // u32 in memory, usize in the code.
+#![tactic(auto)]
+
 ghost use Rattle.std.specs.Prelude.{◌≡◌, ◌<◌, ◌^◌, length, set};
 ghost use Rattle.scope.specs.Lists.{at, zeros};
 

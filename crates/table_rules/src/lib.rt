@@ -1,4 +1,6 @@
 // The rules of an edge table in three slices, edge numbers, reverse rows and area terms: its row count, and its rows one by one.
+#![tactic(auto)]
+
 ghost use Rattle.std.specs.Prelude.{◌≡◌, true, ◌<◌, ◌≤◌, length};
 ghost use Rattle.scope.specs.Lists.{first_bad, passes};
 ghost use Rattle.scope.specs.Table.{table, is_finite, row_count_fits, has_target, ascends, paired, row_good, table_verdict};

@@ -1,5 +1,7 @@
 // The positions of the walk and what they mean: the two tables, the step of a position, and how the levels over the
 // finest one move, with the scratch number that has their digits. The start of a walk is in `start`.
+#![tactic(auto)]
+
 pub mod start;
 
 ghost use Rattle.std.specs.Prelude.{◌≡◌, cond, ◌+◌, ◌-◌, ◌<◌, ◌≤◌, ◌%◌, eqb};
@@ -92,7 +94,7 @@ fn need_to_move_to_next(position: u8, resolution: usize) -> bool
 }
 
 // The number with a digit written, and whether the digit was another.
-#[derive(Drop)]
+#[derive(Clone, Copy)]
 pub struct Written {
     pub scratchpad: u64,
     pub changed: bool,

@@ -1,4 +1,6 @@
 // The calls' answers put to use: whether one accepts, and a refusal as read out and dissolve answer it.
+#![tactic(auto)]
+
 ghost use Rattle.std.specs.Prelude.{◌≡◌};
 ghost use Rattle.scope.specs.Answers.{is_accepted, verdict_of};
 ghost use Rattle.answers.specs.Refusals.{refusal_in};

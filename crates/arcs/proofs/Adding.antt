@@ -32,7 +32,7 @@ use Rattle.arcs.proofs.PoolAlone.{asks_same, cancelled_same}
 
 -- a number plus one is not 0
 not_none : (l : List ℕ) (v : ℕ) → Memᴰ v (map suc l) → v ≢ 0
-not_none [] v i z = Memᴰ.not_nil i
+not_none [] v i z = Memᴰ.not-nil i
 not_none (a ∷ l) v i z = ⊎_elim
     (λ (e : v ≡ suc a). omega arith)
     (λ (k : Memᴰ v (map suc l)). not_none l v k z)

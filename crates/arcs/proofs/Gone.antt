@@ -37,7 +37,7 @@ seen_more ss i = refl
 
 seen_place : (ss : List ℕ) (i a : ℕ) → Memᴰ a (seen ss i) → (j : ℕ) × (j < i) × (at ss j ≡ a)
 unfolding seen
-seen_place ss zero a m = absurd (mathlib.Core.List.Memᴰ.not_nil m)
+seen_place ss zero a m = absurd (mathlib.Core.List.Memᴰ.not-nil m)
 seen_place ss (suc i) a m = ⊎_elim
     (λ (e : a ≡ at ss i). (i, omega arith, sym e))
     (λ (k : Memᴰ a (seen ss i)). let r = seen_place ss i a k in (r.0, omega (arith, r.1), r.2))
@@ -92,7 +92,7 @@ module _ (t : Table) (m : Memory) where
       (or_either (member s l) (member (reverse_slot t m s) l) (and_right (cancels t m s) _ e))
 
   pub gone_none : (s : ℕ) → gone t m [] s ≡ false
-  gone_none s = ⊎_elim (λ e. absurd (⊎_elim (λ i. mathlib.Core.List.Memᴰ.not_nil i) (λ i. mathlib.Core.List.Memᴰ.not_nil i) (gone_met [] s e))) (λ e. e) (either (gone t m [] s))
+  gone_none s = ⊎_elim (λ e. absurd (⊎_elim (λ i. mathlib.Core.List.Memᴰ.not-nil i) (λ i. mathlib.Core.List.Memᴰ.not-nil i) (gone_met [] s e))) (λ e. e) (either (gone t m [] s))
 
   -- what was gone stays gone
   pub gone_on : (l : List ℕ) (x s : ℕ) → gone t m l s ≡ true → gone t m (x ∷ l) s ≡ true

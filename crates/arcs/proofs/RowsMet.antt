@@ -4,7 +4,7 @@
 --     meeting_start, row_asks, meeting_turn, meeting_end
 -- Assumes nothing.
 use mathlib.Core.Path.{◌≡◌, refl, sym, ◌∙◌, ap, subst}
-use mathlib.Core.Logic.{◌⊎◌, inl, inr, ⊎_elim}
+use mathlib.Core.Logic.{inl, inr, ⊎_elim}
 use mathlib.Core.Bool.{true}
 use mathlib.Core.List.{List, [], ◌∷◌, Memᴰ}
 use Prim.Native.Nat.{ℕ, suc, ◌+◌, ◌-◌, ◌≤◌, ◌<◌}
@@ -32,7 +32,7 @@ use Rattle.arcs.proofs.Cancelled.{cancelling_end, cancelling_count}
 -- ---- the outline's slots
 
 slot_row : (m : Memory) (o : List ℕ) (s : ℕ) → Memᴰ s (slots_at m.row_slot o) → (a : ℕ) × Memᴰ a o × (slot_of m a ≡ s)
-slot_row m [] s i = absurd (mathlib.Core.List.Memᴰ.not_nil i)
+slot_row m [] s i = absurd (mathlib.Core.List.Memᴰ.not-nil i)
 slot_row m (x ∷ o) s i = ⊎_elim
     (λ (e : s ≡ slot_of m x). (x, mathlib.Core.List.Memᴰ.head refl, sym e))
     (λ (k : Memᴰ s (slots_at m.row_slot o)). let r = slot_row m o s k in (r.0, mathlib.Core.List.Memᴰ.tail r.1, r.2))

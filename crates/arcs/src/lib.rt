@@ -1,4 +1,6 @@
 // The pool: edges of the accepted outlines in slots, linked to rings. The Rust's `ArcSolvent`.
+#![tactic(auto)]
+
 mod cancel;
 
 ghost use Rattle.std.specs.Prelude.{◌≡◌, ◌&&◌, [], ◌∷◌, ◌<◌, leb, length};
@@ -11,7 +13,7 @@ use placing::{hold_cell, place_outline};
 use slices::{clear32, clear64, put32};
 
 // The capacities of a pool.
-#[derive(Drop)]
+#[derive(Clone, Copy)]
 pub struct Pool {
     pub slots: usize,
     pub places: usize,

@@ -1,4 +1,6 @@
 // A cell looked up among others: along the held ones, or by halving through the indices of a part of a list in order.
+#![tactic(auto)]
+
 ghost use Rattle.std.specs.Prelude.{◌≡◌, length};
 ghost use Rattle.scope.specs.Lists.{at, first_bad, passes};
 ghost use Rattle.scope.specs.CellLists.{differs, not_under, not_over};

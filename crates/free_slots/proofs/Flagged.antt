@@ -19,7 +19,7 @@ use Rattle.scope.specs.Lists.{at}
 use Rattle.scope.proofs.Tests.{le_or_lt}
 use Rattle.scope.proofs.Members.{cases}
 use Rattle.free_slots.specs.Search.{free_from, digit_at, Flags, vacated, WordAsks, WordFound, SearchAsks, Searched}
-use Rattle.free_slots.proofs.Searching.{First, free_first, first_one}
+use Rattle.free_slots.proofs.Searching.{First, free_first}
 use Rattle.free_slots.proofs.Digits.{zero_none, lowest_low, without_lowest, or_left, or_right, power_digit}
 
 -- ---- the first word with a flag

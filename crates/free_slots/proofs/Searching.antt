@@ -15,7 +15,7 @@ use lib.Dec.{eqb}
 use lib.ListN.{length}
 use borrow.Author.Tests.{eq-eqb, ne_eqb}
 use Rattle.scope.specs.Lists.{at, from}
-use Rattle.scope.proofs.Tests.{clash, either, le_or_lt, and_left, and_right}
+use Rattle.scope.proofs.Tests.{clash, either, and_left, and_right}
 use Rattle.scope.proofs.Members.{cases}
 use Rattle.free_slots.specs.Search.{free_from, PassedOver}
 

@@ -1,5 +1,7 @@
 // The search for a free slot. A flag for each slot, 64 to a word, tells which may be free: where it is clear the slot is used, where it is set
 // the slot is looked at. Flags that are all set are right for any pool, so that no state need keep them; where one misleads, the search goes by eights.
+#![tactic(auto)]
+
 ghost use Rattle.std.specs.Prelude.{◌≡◌, ◌+◌, ◌*◌, ◌/◌, ◌<◌, ◌≤◌, length};
 ghost use Rattle.std.specs.Int.Count.{count_trailing_zeros};
 ghost use Rattle.free_slots.specs.Search.{free_from, PassedOver, vacated, WordAsks, WordFound, SearchAsks, Searched};

@@ -1,4 +1,6 @@
 // Two slots leave their rings and are free again.
+#![tactic(auto)]
+
 ghost use Rattle.std.specs.Prelude.{◌≡◌, [], ◌<◌, length};
 ghost use Rattle.pair_links.specs.Links.{swap_next, swap_prev, drop_next, drop_prev, pair_next, pair_prev, clear_two, Closed, pool, FreeAsks, Freed};
 

@@ -6,7 +6,7 @@ use Prim.Native.Nat.{ℕ, ◌-◌, ◌<◌}
 use lib.ListN.{length}
 use Rattle.scope.specs.Lists.{at}
 use Rattle.scope.specs.Memory.{Memory, slot_of}
-use Rattle.union_find.specs.Contracts.{UnionAsks, Joined}
+use Rattle.union_find.specs.Asked.{UnionAsks, Joined}
 use Rattle.pair_links.specs.Links.{pair_next, pair_prev, Closed, pool, FreeAsks, Freed}
 use Rattle.pairs.specs.Cancel.{PairAsks, PairCancelled}
 

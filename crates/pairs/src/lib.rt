@@ -1,4 +1,6 @@
 // A pair of slots whose edges are each other's reverse leaves the pool: its cells are united, its links joined, its slots free again.
+#![tactic(auto)]
+
 ghost use Rattle.free_slots.specs.Search.{Flags};
 ghost use Rattle.pair_links.specs.Links.{pool};
 ghost use Rattle.pairs.specs.Cancel.{PairAsks, PairCancelled};

@@ -15,7 +15,7 @@ use Rattle.scope.proofs.Members.{mem_at, mem_below}
 use Rattle.scope.proofs.Puts.{put_all_length, put_all_at, mem_take}
 use Rattle.free_slots.specs.Search.{used_in}
 use Rattle.placing.specs.Place.{free_in, slots_in, slots_at, PlacedRows, LinkAsks, LinkedRows}
-use Rattle.union_find.specs.Contracts.{AddAsks, Added}
+use Rattle.union_find.specs.Asked.{AddAsks, Added}
 use Rattle.placing.specs.Outline.{HoldAsks, CellHeld, OutlineAsks, OutlinePlaced}
 use Rattle.placing.proofs.Placing.{map_at, slots_many}
 use Rattle.placing.proofs.Linking.{slots_at_lem}

@@ -1,4 +1,6 @@
 // A cell held, and its outline placed: its i-th edge takes the i-th lowest free slot, and its edges are linked in walk order.
+#![tactic(auto)]
+
 ghost use Rattle.std.specs.Prelude.{◌≡◌, ◌<◌, length};
 ghost use Rattle.scope.specs.Lists.{at};
 ghost use Rattle.scope.proofs.Outlines.{onward};

@@ -1,5 +1,7 @@
 // The state's rules, refusal 9, on any numbers at all, in slices whose lengths are tested: a number that nothing has checked is read as 0
 // past the end of its slice, as the rules have it.
+#![tactic(auto)]
+
 ghost use Rattle.std.specs.Prelude.{◌≡◌, cond, not, ◌<◌, ◌≤◌, ◌^◌, eqb, length, take};
 ghost use Rattle.scope.specs.Lists.{passes};
 ghost use Rattle.scope.specs.Answers.{is_accepted};

@@ -1,5 +1,7 @@
 // The rules of the slots of a state, on any numbers at all: a number that nothing has checked is read as 0 past the end of its slice, as the
 // rules have it.
+#![tactic(auto)]
+
 ghost use Rattle.std.specs.Prelude.{◌≡◌, [], ◌<◌, length};
 ghost use Rattle.scope.specs.Lists.{at, passes};
 ghost use Rattle.scope.specs.Table.{table};

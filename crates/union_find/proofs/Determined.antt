@@ -4,7 +4,7 @@ use mathlib.Core.Path.{◌≡◌, sym, ◌∙◌, ap}
 use mathlib.Core.List.{List}
 use Prim.Native.Nat.{ℕ}
 use Rattle.scope.specs.UnionFind.{United}
-use Rattle.union_find.specs.Contracts.{Found, Joined, Added}
+use Rattle.union_find.specs.Asked.{Found, Joined, Added}
 
 pub found_one : {ps rs ps' ps'' : List ℕ} {n a r r' : ℕ} → Found ps rs n a r ps' → Found ps rs n a r' ps'' → (r ≡ r') × (ps' ≡ ps'')
 found_one F G = (F.root ∙ sym G.root, F.left ∙ sym G.left)

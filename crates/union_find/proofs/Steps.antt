@@ -15,7 +15,7 @@ use Rattle.scope.specs.UnionFind.{halve, finding, unite_roots, uniting}
 use Rattle.scope.proofs.Halving.{Forest, rank_low, up, rises_two, turn_here, turn_keeps, halve_turn, halve_keeps, halve_held, halve_root, halve_roots}
 use Rattle.scope.proofs.Climb.{find_same}
 use Rattle.scope.proofs.Unions.{hang_keeps, hang_low}
-use Rattle.union_find.specs.Contracts.{Found, HangAsks, Hung, Joined}
+use Rattle.union_find.specs.Asked.{Found, HangAsks, Hung, Joined}
 
 -- What a turn of find at x, which is no root, has done when it comes to x' and leaves ps'.
 pub record Turned (rs : List ℕ) (n k : ℕ) (ps : List ℕ) (x : ℕ) (ps' : List ℕ) (x' : ℕ) : Type 0 where

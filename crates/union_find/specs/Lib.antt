@@ -1,2 +1,2 @@
 -- What the contracts of this crate say.
-pub mod Contracts
+pub mod Asked

@@ -1,8 +1,10 @@
 // Groups of cells in lent slices: the Rust's `UnionFind`. A place's parent leads to its group's root.
+#![tactic(auto)]
+
 ghost use Rattle.std.specs.Prelude.{◌≡◌, ℕ, ◌+◌, ◌<◌, ◌≤◌, ◌^◌};
 ghost use Rattle.scope.specs.UnionFind.{root_of};
 ghost use Rattle.scope.proofs.Halving.{Forest};
-ghost use Rattle.union_find.specs.Contracts.{Found, HangAsks, Hung, UnionAsks, Joined, AddAsks, Added};
+ghost use Rattle.union_find.specs.Asked.{Found, HangAsks, Hung, UnionAsks, Joined, AddAsks, Added};
 
 use slices::{get32, put32};
 

@@ -1,5 +1,7 @@
 // Tests of a cell list, and of one cell against the held ones: refusals 2, 3, 4, the second 3 and 8, each with its index.
 // Nothing lent is written.
+#![tactic(auto)]
+
 ghost use Rattle.std.specs.Prelude.{◌≡◌, length};
 ghost use Rattle.scope.specs.Lists.{first_bad};
 ghost use Rattle.scope.specs.CellLists.{valid_at, resolution_fits, resolution_fits_at, room_for, list_verdict, cell_verdict};

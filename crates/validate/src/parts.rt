@@ -14,7 +14,7 @@ use least::least;
 const PART: usize = 16384;
 
 // The lowest second one of equal cells, and the lowest cell under another; the number of cells where there is none.
-#[derive(Drop)]
+#[derive(Clone, Copy)]
 pub struct Clashes {
     pub second: usize,
     pub nested: usize,

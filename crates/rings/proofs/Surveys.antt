@@ -116,7 +116,7 @@ module _ {v : View} {row_mark cell_mark edges size rows group : List ℕ} {area 
             record {
               stands = s;
               slot-in = c.0;
-              cell_in = let a = survey_groups.space in let b = G.len in let d = c.1 in omega arith;
+              cell_within = let a = survey_groups.space in let b = G.len in let d = c.1 in omega arith;
               some = λ z. omega arith;
             };
       }

@@ -48,7 +48,7 @@ cell_in row_slot slot_cell r = at slot_cell (at row_slot r - 1)
 pub record CellReady (row_slot slot_cell mark : List ℕ) (r : ℕ) : Type 0 where
   pub stands : at row_slot r ≢ 0
   pub slot-in : at row_slot r - 1 < length slot_cell
-  pub cell_in : cell_in row_slot slot_cell r < length mark
+  pub cell_within : cell_in row_slot slot_cell r < length mark
   pub some : at mark (cell_in row_slot slot_cell r) ≢ 0
 
 abbrev pub marked_group : List ℕ → List ℕ → List ℕ → ℕ → ℕ

@@ -1,4 +1,6 @@
 // Ring building: the rings of a state, in their order, with areas and groups, written to the lent outputs.
+#![tactic(auto)]
+
 mod groups;
 mod layout;
 mod walk;

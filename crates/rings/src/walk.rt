@@ -66,7 +66,7 @@ fn is_unmarked(row_slot: &[u32], mark: &[u32], i: usize) -> bool
     (get32(row_slot, i) != 0) & (get32(mark, i) == 0)
 }
 
-#[derive(Drop)]
+#[derive(Clone, Copy)]
 pub(crate) struct Counts {
     pub rings: usize,
     pub edges: usize,

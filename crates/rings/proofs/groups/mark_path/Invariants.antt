@@ -1,0 +1,9 @@
+-- The loop of `rings::groups::mark_path`.
+use Rattle.rings.proofs.Painting.{PaintInv, todo}
+use Rattle.rings.proofs.groups.mark_path.Given as goal
+
+abbrev pub invariant-loop-mark : goal.invariant-loop-mark
+invariant-loop-mark l = PaintInv l.parent l.initial.mark l.held l.p l.v l.mark l.i
+
+abbrev pub decreases-loop-mark : goal.decreases-loop-mark
+decreases-loop-mark l = todo l.parent l.held l.mark l.i

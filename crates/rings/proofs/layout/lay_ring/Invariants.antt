@@ -1,0 +1,13 @@
+-- The loop of `rings::layout::lay_ring`.
+use mathlib.Core.Path.{◌≡◌}
+use Prim.Native.Nat.{◌-◌}
+use lib.ListN.{length}
+use Rattle.scope.specs.Lists.{at}
+use Rattle.rings.proofs.Laying.{LayInv}
+use Rattle.rings.proofs.layout.lay_ring.Given as goal
+
+abbrev pub invariant-loop-more : goal.invariant-loop-more
+invariant-loop-more l = LayInv l.row_slot l.slot_row l.next l.initial.out l.from l.r l.out l.k l.x l.more × (l.slot ≡ at l.row_slot l.x - 1)
+
+abbrev pub decreases-loop-more : goal.decreases-loop-more
+decreases-loop-more l = length l.row_slot - l.k

@@ -1,5 +1,7 @@
 // What is refused before anything is written: the tests of each call in their order, over slices that are only read.
 // `fits` is what a call has found of the lengths of its slices, by `lengths`: 10 comes first.
+#![tactic(auto)]
+
 pub mod lengths;
 
 ghost use Rattle.std.specs.Prelude.{◌≡◌, length, take};

@@ -1,5 +1,7 @@
 // Dissolve's work, once its list is checked: the state is opened, the cells of the list are taken in turn, and the rings are read out.
 // Refused by 5, 6, 7 or by a short output, it leaves the state newly opened and the outputs as they were.
+#![tactic(auto)]
+
 ghost use Rattle.std.specs.Prelude.{◌≡◌};
 ghost use Rattle.scope.specs.Table.{table};
 ghost use Rattle.scope.specs.Memory.{memory, output, opened};

@@ -1,4 +1,6 @@
 // A state read out where a verdict accepts it: its rings are built, or the refusal is handed on and nothing is written.
+#![tactic(auto)]
+
 ghost use Rattle.scope.specs.Lists.{at};
 ghost use Rattle.scope.specs.Memory.{output};
 ghost use Rattle.rings.specs.Views.{view_of};

@@ -1,5 +1,7 @@
 // The ring list as a lent slice of records: read out and dissolve in this form.
 // Thin functions over the core, which writes the four plain slices: all that decides a number is in it.
+#![tactic(auto)]
+
 mod agreed;
 
 ghost use Rattle.scope.specs.Table.{table};

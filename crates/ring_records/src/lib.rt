@@ -1,4 +1,6 @@
 // The records of the ring list: filled from the four plain slices that the core writes.
+#![tactic(auto)]
+
 ghost use Rattle.std.specs.Prelude.{◌≡◌, ◌<◌, length};
 ghost use Rattle.scope.specs.Answers.{rings_of};
 ghost use Rattle.ring_records.specs.Records.{record_at, filled, Enough};
@@ -6,7 +8,7 @@ ghost use Rattle.ring_records.specs.Records.{record_at, filled, Enough};
 use scope::ReadOut;
 
 #[repr(C)]
-#[derive(Drop)]
+#[derive(Clone, Copy)]
 pub struct Ring {
     pub start: u32,
     pub length: u32,

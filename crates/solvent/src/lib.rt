@@ -1,5 +1,7 @@
 // The four calls over lent slices: open, offer, read out, as `standing` has them, and dissolve. The Rust's `Solvent` and `ArcSet`.
 // Each takes any slices: what the definitions of `scope` say of the call is its answer and what it leaves.
+#![tactic(auto)]
+
 ghost use Rattle.scope.specs.Table.{table};
 ghost use Rattle.scope.specs.Memory.{memory, output};
 ghost use Rattle.solvent.specs.Promises.{Dissolves};

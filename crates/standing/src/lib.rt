@@ -1,5 +1,7 @@
 // The calls on a standing state over lent slices: open, offer and read out. The Rust's `ArcSet`.
 // Each takes any slices: what the definitions of `scope` say of the call is its answer and what it leaves.
+#![tactic(auto)]
+
 ghost use Rattle.scope.specs.Table.{table};
 ghost use Rattle.scope.specs.Memory.{memory, output};
 ghost use Rattle.standing.specs.Promises.{Opens, Offers, ReadsOut};

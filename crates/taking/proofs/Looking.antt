@@ -57,7 +57,7 @@ module _ {es mark₀ rows₀ : List ℕ} {x : ℕ} (asks : OutlineAsks es mark�
     rows_long = refl;
     count_in = omega arith;
     stored_in = omega arith;
-    marks = record { on = λ a m. absurd (mathlib.Core.List.Memᴰ.not_nil m); off = λ a n. asks.clear a };
+    marks = record { on = λ a m. absurd (mathlib.Core.List.Memᴰ.not-nil m); off = λ a n. asks.clear a };
     walked = rw q (walked_start es (outline x (resolution_of (at es 0))));
   }
 

@@ -100,7 +100,7 @@ module _ {mark₀ rows : List ℕ} {n : ℕ} (asks : UnmarkAsks mark₀ rows n) 
         (λ a l. c.off a (none a) ∙ sym (get_or-replicate (length mark₀) a 0 0 (rw c.long at l)))
       where
         none : (a : ℕ) → Memᴰ a (drop i (take n rows)) → ⊥
-        none a m = Memᴰ.not_nil (subst (λ (l : List ℕ). Memᴰ a l) (drop_of_length-le (take n rows) {i = i} (rw stored_long h)) m)
+        none a m = Memᴰ.not-nil (subst (λ (l : List ℕ). Memᴰ a l) (drop_of_length-le (take n rows) {i = i} (rw stored_long h)) m)
 
 pub marks_clear : (mark : List ℕ) → ((a : ℕ) → at mark a ≡ 0) → zeros mark ≡ mark
 marks_clear mark f =

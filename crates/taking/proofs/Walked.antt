@@ -37,7 +37,7 @@ pub walked_start : (es whole : List ℕ) → Walked es whole whole [] false
 walked_start es whole = record {
   seen = [];
   cut = refl;
-  present = λ a m. absurd (Memᴰ.not_nil m);
+  present = λ a m. absurd (Memᴰ.not-nil m);
   fresh = tt;
   seen_row = λ a m. m;
   once = λ e. refl;

@@ -1,4 +1,6 @@
 // Cells of a state that admits them: each one's outline is looked up in the table, refused by 5, 6 or 7, or placed and its pairs cancelled.
+#![tactic(auto)]
+
 mod list;
 mod lookup;
 mod scratch;

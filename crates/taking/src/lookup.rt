@@ -11,7 +11,7 @@ use scope::Found;
 use slices::{get32, put32};
 
 // How many different rows are stored, whether an edge is absent from the table, and whether one is named twice.
-#[derive(Drop)]
+#[derive(Clone, Copy)]
 pub struct Outlined {
     pub count: usize,
     pub absent: bool,

@@ -11,7 +11,7 @@ use scope::Verdict;
 use slices::get32;
 
 // A cell is refused or taken; and how many slots are free then.
-#[derive(Drop)]
+#[derive(Clone, Copy)]
 pub struct Taken {
     pub verdict: Verdict,
     pub free: usize,

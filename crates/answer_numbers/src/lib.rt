@@ -1,4 +1,6 @@
 // What the calls answer, as numbers.
+#![tactic(auto)]
+
 ghost use Rattle.std.specs.Prelude.{◌≡◌, ◌≤◌, ◌<◌, ◌^◌};
 ghost use Rattle.scope.specs.Answers.{refusal_of, verdict_of, require, ◌▷◌};
 ghost use Rattle.scope.specs.Bytes.{in32, result_of};
@@ -53,7 +55,7 @@ pub fn then_fits(verdict: Verdict, fits: bool) -> Verdict
     }
 }
 
-#[derive(Drop)]
+#[derive(Clone, Copy)]
 pub struct Summary {
     pub kind: u64,
     pub polygons: u64,

@@ -3,7 +3,7 @@
 --     dissolves, stands                    and the entry point is the call on what is decoded
 --     dissolve_refused, standing_refused   failed, it is refusal 10
 -- Assumes nothing.
-use Prim.Native.Nat.{ℕ, ◌/◌, ◌%◌, ◌≤◌}
+use Prim.Native.Nat.{ℕ, ◌%◌, ◌≤◌}
 use mathlib.Core.Path.{◌≡◌, sym, ◌∙◌, ap}
 use mathlib.Core.Bool.{Bool, true, false, ◌&&◌, cond}
 use mathlib.Core.List.{List, []}
@@ -12,7 +12,7 @@ use lib.ListN.{length}
 use borrow.Author.Tests.{eqb-true, leb-true}
 use Rattle.scope.specs.declared.Verdict.TheVariants.{Refused}
 use Rattle.scope.specs.Table.{row_count}
-use Rattle.scope.specs.Calls.{Reading, dissolving}
+use Rattle.scope.specs.Calls.{dissolving}
 use Rattle.scope.specs.Bytes.{Left, refused, result_of, rows_in, table_in, cells_in, state_in, state_size, cleared, cleared_output, showing, calling, table_fits, list_fits, room_fits, zone_dissolving, zone_standing}
 use Rattle.scope.proofs.Tests.{and_left, and_right}
 use Rattle.byte_limits.proofs.Rooms.{table_rows}

@@ -1,7 +1,7 @@
 -- What both ways in on bytes promise: the result and the bytes left are what `scope` says of the call.
 -- Assumes nothing.
 use Rattle.std.specs.Prelude.{ℕ, ◌≡◌, List, []}
-use Rattle.scope.specs.Bytes.{Left, zone_dissolving, zone_standing}
+use Rattle.scope.specs.Bytes.{zone_dissolving, zone_standing}
 
 -- of a table, a list of cells, an output, a mode and the capacities: this result, and this output left
 abbrev pub DissolvesBytes : List ℕ → List ℕ → List ℕ → ℕ → ℕ → ℕ → ℕ → List ℕ → Type 0

@@ -1,4 +1,6 @@
 // Both ways in on bytes, for small tables: the host's limits tested, and the call made within them. The formats are those of scope's Bytes.
+#![tactic(auto)]
+
 ghost use Rattle.std.specs.Prelude.{◌≡◌};
 ghost use Rattle.scope.specs.Bytes.{rows_in, table_in, state_in, calling};
 ghost use Rattle.byte_limits.specs.Within.{StandingWithin};
@@ -46,7 +48,7 @@ fn call_within(
     value: u64,
 ) -> u64
     requires { StandingWithin table.now state.old slots places }
-    ensures* { λ r. ⌜ record { result = r; state = state.new; out = out.new } ≡ calling (table_in table.now) (state_in (rows_in table.now) slots places state.old) state.old out.old call value ⌝ }
+    ensures { record { result = result; state = state.new; out = out.new } ≡ calling (table_in table.now) (state_in (rows_in table.now) slots places state.old) state.old out.old call value }
 {
     if call < 2 {
         return change_within(table, state, slots, places, call, value);

@@ -1,5 +1,7 @@
 // Open and offer on the bytes of a standing state within the host's limits: table and state decoded into local arrays, one for each
 // column, and the state back into its bytes unless the call is refused.
+#![tactic(auto)]
+
 mod state;
 
 ghost use Rattle.std.specs.Prelude.{◌≡◌, []};
@@ -38,7 +40,7 @@ fn change_bytes(
     value: u64,
 ) -> u64
     requires { StandingRoom rows slots places table_bytes.now state.old (table edges.old reverse.old area.old) (memory head.old cells.old parent.old rank.old cell_mark.old slot_row.old slot_cell.old prev.old next.old row_slot.old row_mark.old) }
-    ensures* out_after { λ r. ⌜ record { result = r; state = state.new; out = [] } ≡ storing (changing (table_in table_bytes.now) (state_in rows slots places state.old) call value) state.old [] ⌝ }
+    ensures out_after { record { result = result; state = state.new; out = [] } ≡ storing (changing (table_in table_bytes.now) (state_in rows slots places state.old) call value) state.old [] }
     ensures area_after { table edges.new reverse.new area.new ≡ table_in table_bytes.now }
     ensures row_mark_after { memory head.new cells.new parent.new rank.new cell_mark.new slot_row.new slot_cell.new prev.new next.new row_slot.new row_mark.new ≡ (changing (table_in table_bytes.now) (state_in rows slots places state.old) call value).left }
 {
@@ -63,7 +65,7 @@ pub fn change_within(
     value: u64,
 ) -> u64
     requires { StandingWithin table.now state.old slots places }
-    ensures* { λ r. ⌜ record { result = r; state = state.new; out = [] } ≡ storing (changing (table_in table.now) (state_in (rows_in table.now) slots places state.old) call value) state.old [] ⌝ }
+    ensures { record { result = result; state = state.new; out = [] } ≡ storing (changing (table_in table.now) (state_in (rows_in table.now) slots places state.old) call value) state.old [] }
 {
     let rows = table.len() / 20;
     let mut edges = [0u64; 1024];

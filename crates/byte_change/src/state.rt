@@ -116,7 +116,7 @@ pub fn change_state(
     value: u64,
 ) -> u64
     requires { StateRoom rows slots places state.old (memory head.old cells.old parent.old rank.old cell_mark.old slot_row.old slot_cell.old prev.old next.old row_slot.old row_mark.old) }
-    ensures* out_after { λ r. ⌜ record { result = r; state = state.new; out = [] } ≡ storing (changing (table edges.now reverse.now area.now) (memory head.old cells.old parent.old rank.old cell_mark.old slot_row.old slot_cell.old prev.old next.old row_slot.old row_mark.old) call value) state.old [] ⌝ }
+    ensures out_after { record { result = result; state = state.new; out = [] } ≡ storing (changing (table edges.now reverse.now area.now) (memory head.old cells.old parent.old rank.old cell_mark.old slot_row.old slot_cell.old prev.old next.old row_slot.old row_mark.old) call value) state.old [] }
     ensures row_mark_after { memory head.new cells.new parent.new rank.new cell_mark.new slot_row.new slot_cell.new prev.new next.new row_slot.new row_mark.new ≡ (changing (table edges.now reverse.now area.now) (memory head.old cells.old parent.old rank.old cell_mark.old slot_row.old slot_cell.old prev.old next.old row_slot.old row_mark.old) call value).left }
 {
     let verdict = change(

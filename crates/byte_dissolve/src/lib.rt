@@ -1,5 +1,7 @@
 // Dissolve on bytes within the host's limits: table and list decoded into local arrays, one for each column, and what is read out
 // into the bytes of an output.
+#![tactic(auto)]
+
 ghost use Rattle.std.specs.Prelude.{◌≡◌, [], ◌≤◌, length};
 ghost use Rattle.scope.specs.Table.{table};
 ghost use Rattle.scope.specs.Memory.{memory};
@@ -34,7 +36,7 @@ fn dissolve_list(
     mode: usize,
 ) -> u64
     requires { length edges.now ≤ 1024 }
-    ensures* out_after { λ r. ⌜ record { result = r; state = []; out = out.new } ≡ showing (dissolving (table edges.now reverse.now area.now) (memory head.old cells.old parent.old rank.old cell_mark.old slot_row.old slot_cell.old prev.old next.old row_slot.old row_mark.old) mode list.now (cleared_output (length edges.now))) [] out.old ⌝ }
+    ensures out_after { record { result = result; state = []; out = out.new } ≡ showing (dissolving (table edges.now reverse.now area.now) (memory head.old cells.old parent.old rank.old cell_mark.old slot_row.old slot_cell.old prev.old next.old row_slot.old row_mark.old) mode list.now (cleared_output (length edges.now))) [] out.old }
     ensures row_mark_after { memory head.new cells.new parent.new rank.new cell_mark.new slot_row.new slot_cell.new prev.new next.new row_slot.new row_mark.new ≡ (dissolving (table edges.now reverse.now area.now) (memory head.old cells.old parent.old rank.old cell_mark.old slot_row.old slot_cell.old prev.old next.old row_slot.old row_mark.old) mode list.now (cleared_output (length edges.now))).left }
 {
     let rows = edges.len();
@@ -78,7 +80,7 @@ fn dissolve_bytes(
     mode: usize,
 ) -> u64
     requires { DissolveRoom table_bytes.now cell_bytes.now (table edges.old reverse.old area.old) list.old }
-    ensures* out_after { λ r. ⌜ record { result = r; state = []; out = out.new } ≡ showing (dissolving (table_in table_bytes.now) (memory head.old cells.old parent.old rank.old cell_mark.old slot_row.old slot_cell.old prev.old next.old row_slot.old row_mark.old) mode (cells_in cell_bytes.now) (cleared_output (rows_in table_bytes.now))) [] out.old ⌝ }
+    ensures out_after { record { result = result; state = []; out = out.new } ≡ showing (dissolving (table_in table_bytes.now) (memory head.old cells.old parent.old rank.old cell_mark.old slot_row.old slot_cell.old prev.old next.old row_slot.old row_mark.old) mode (cells_in cell_bytes.now) (cleared_output (rows_in table_bytes.now))) [] out.old }
     ensures area_after { table edges.new reverse.new area.new ≡ table_in table_bytes.now }
     ensures list_after { list.new ≡ cells_in cell_bytes.now }
     ensures row_mark_after { memory head.new cells.new parent.new rank.new cell_mark.new slot_row.new slot_cell.new prev.new next.new row_slot.new row_mark.new ≡ (dissolving (table_in table_bytes.now) (memory head.old cells.old parent.old rank.old cell_mark.old slot_row.old slot_cell.old prev.old next.old row_slot.old row_mark.old) mode (cells_in cell_bytes.now) (cleared_output (rows_in table_bytes.now))).left }
@@ -101,7 +103,7 @@ pub fn dissolve_within(
     places: usize,
 ) -> u64
     requires { DissolveWithin table.now cells.now slots places }
-    ensures* { λ r. ⌜ record { result = r; state = []; out = out.new } ≡ showing (dissolving (table_in table.now) (cleared (rows_in table.now) slots places) mode (cells_in cells.now) (cleared_output (rows_in table.now))) [] out.old ⌝ }
+    ensures { record { result = result; state = []; out = out.new } ≡ showing (dissolving (table_in table.now) (cleared (rows_in table.now) slots places) mode (cells_in cells.now) (cleared_output (rows_in table.now))) [] out.old }
 {
     let rows = table.len() / 20;
     let count = cells.len() / 8;

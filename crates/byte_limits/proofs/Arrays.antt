@@ -11,7 +11,7 @@ use Rattle.scope.specs.Area.{positive_zero}
 use Rattle.scope.specs.Table.{Table, table}
 use Rattle.scope.specs.Memory.{Memory, memory}
 use Rattle.scope.specs.Bytes.{rows_in, cleared}
-use Rattle.wire.specs.Sizes.{TableSized, StateRoom}
+use Rattle.wire.specs.Sizes.{TableSized}
 use Rattle.byte_limits.specs.Columns.{DissolveRoom, StandingRoom}
 use Rattle.byte_limits.proofs.Outputs.{front_cleared, front_long}
 use Rattle.byte_limits.specs.Within.{DissolveWithin, StandingWithin}

@@ -6,18 +6,18 @@
 --     shown_is                           and shown it is `showing`
 -- Assumes nothing.
 use Prim.Native.Nat.{ℕ, ◌+◌, ◌-◌, ◌≤◌}
-use mathlib.Core.Path.{◌≡◌, refl, sym, ◌∙◌, ap, subst}
+use mathlib.Core.Path.{◌≡◌, sym, ◌∙◌, ap, subst}
 use mathlib.Core.List.{List, []}
 use native.Mathlib.Omega.{arith}
 use lib.Ieee.{Float}
 use lib.ListN.{length, take, replicate, length-replicate, replicate-append-replicate}
 use lib.Seq.{take_at}
 use Rattle.scope.specs.declared.ReadOut.{ReadOut}
-use Rattle.scope.specs.Answers.{refusal_of, verdict_of, rings_of}
+use Rattle.scope.specs.Answers.{verdict_of, rings_of}
 use Rattle.scope.specs.Area.{positive_zero}
 use Rattle.scope.specs.Memory.{Memory, Output, output}
 use Rattle.scope.specs.Calls.{Reading}
-use Rattle.scope.specs.Bytes.{Left, edge_count, cleared_output, result_of, shown_verdict, shown_out, showing}
+use Rattle.scope.specs.Bytes.{edge_count, cleared_output, result_of, shown_verdict, shown_out, showing}
 use Rattle.scope.proofs.ReadRoom.{RoomIn}
 use Rattle.scope.proofs.Numbered.{Numbered, number_most}
 use Rattle.wire.specs.Room.{ShownRoom}

@@ -1,4 +1,6 @@
 // What the calls on bytes share: the host's limits as tests, and the cells of a list.
+#![tactic(auto)]
+
 pub mod fits;
 
 ghost use Rattle.std.specs.Prelude.{◌≡◌, ◌/◌, length};

@@ -1,5 +1,7 @@
 // Read out on the bytes of a standing state within the host's limits: table and state decoded into local arrays, one for each column,
 // and what is read out into the bytes of an output.
+#![tactic(auto)]
+
 ghost use Rattle.std.specs.Prelude.{◌≡◌, [], ◌≤◌, length};
 ghost use Rattle.scope.specs.Table.{table, row_count};
 ghost use Rattle.scope.specs.Memory.{memory};
@@ -31,7 +33,7 @@ fn read_state(
     row_mark: &mut [u32],
 ) -> u64
     requires { length edges.now ≤ 1024 }
-    ensures* out_after { λ r. ⌜ record { result = r; state = []; out = out.new } ≡ showing (reading_out (table edges.now reverse.now area.now) (memory head.now cells.now parent.now rank.now cell_mark.old slot_row.now slot_cell.now prev.now next.now row_slot.now row_mark.old) (cleared_output (length edges.now))) [] out.old ⌝ }
+    ensures out_after { record { result = result; state = []; out = out.new } ≡ showing (reading_out (table edges.now reverse.now area.now) (memory head.now cells.now parent.now rank.now cell_mark.old slot_row.now slot_cell.now prev.now next.now row_slot.now row_mark.old) (cleared_output (length edges.now))) [] out.old }
     ensures cell_mark_unchanged { cell_mark.new ≡ cell_mark.old }
     ensures row_mark_unchanged { row_mark.new ≡ row_mark.old }
 {
@@ -77,7 +79,7 @@ fn read_bytes(
     places: usize,
 ) -> u64
     requires { StandingRoom rows slots places table_bytes.now state.now (table edges.old reverse.old area.old) (memory head.old cells.old parent.old rank.old cell_mark.old slot_row.old slot_cell.old prev.old next.old row_slot.old row_mark.old) }
-    ensures* out_after { λ r. ⌜ record { result = r; state = []; out = out.new } ≡ showing (reading_out (table_in table_bytes.now) (state_in rows slots places state.now) (cleared_output (row_count (table_in table_bytes.now)))) [] out.old ⌝ }
+    ensures out_after { record { result = result; state = []; out = out.new } ≡ showing (reading_out (table_in table_bytes.now) (state_in rows slots places state.now) (cleared_output (row_count (table_in table_bytes.now)))) [] out.old }
     ensures area_after { table edges.new reverse.new area.new ≡ table_in table_bytes.now }
     ensures row_mark_after { memory head.new cells.new parent.new rank.new cell_mark.new slot_row.new slot_cell.new prev.new next.new row_slot.new row_mark.new ≡ state_in rows slots places state.now }
 {
@@ -95,7 +97,7 @@ fn read_bytes(
 // Reads out within the limits, with a local array for each column.
 pub fn read_within(table: &[u8], state: &[u8], out: &mut [u8], slots: usize, places: usize) -> u64
     requires { StandingWithin table.now state.now slots places }
-    ensures* { λ r. ⌜ record { result = r; state = []; out = out.new } ≡ showing (reading_out (table_in table.now) (state_in (rows_in table.now) slots places state.now) (cleared_output (row_count (table_in table.now)))) [] out.old ⌝ }
+    ensures { record { result = result; state = []; out = out.new } ≡ showing (reading_out (table_in table.now) (state_in (rows_in table.now) slots places state.now) (cleared_output (row_count (table_in table.now)))) [] out.old }
 {
     let rows = table.len() / 20;
     let mut edges = [0u64; 1024];

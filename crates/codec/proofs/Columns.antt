@@ -4,11 +4,11 @@
 --     Filled, filled_none, filled_next, filled_all     the loop's invariant and its moves
 -- Assumes nothing.
 use mathlib.Core.Path.{◌≡◌, refl, sym, ◌∙◌, ap}
-use mathlib.Core.List.{List, [], ◌∷◌, ◌++◌, append_assoc, append-nil, map}
+use mathlib.Core.List.{List, [], ◌∷◌, ◌++◌, append-nil, map}
 use Prim.Native.Nat.{ℕ, zero, suc, ◌+◌, ◌≤◌, ◌<◌}
 use native.Mathlib.Numerals.{add-one}
 use native.Mathlib.Omega.{arith}
-use lib.ListN.{length, get_or, set, drop, length-set, length-append, length-map, drop_of_length-le}
+use lib.ListN.{length, get_or, set, drop, length-set, length-map, drop_of_length-le}
 use lib.Seq.{drop-cons, set_at, append_snoc}
 use Rattle.scope.specs.Lists.{tabulate_from, tabulate}
 use Rattle.scope.proofs.Below.{tabulate_length}

@@ -1,5 +1,7 @@
 // Numbers and floats in slices of bytes, least byte first: one at a time, and a column of them into or out of a slice.
 // The formats are those of scope's Bytes.
+#![tactic(auto)]
+
 ghost use Rattle.std.specs.Prelude.{◌≡◌, map, ℕ, ◌+◌, ◌*◌, ◌≤◌, ◌<◌, length};
 ghost use Rattle.std.proofs.lemmas.List.Edits.{sets};
 ghost use Rattle.std.specs.Float.{binary64};

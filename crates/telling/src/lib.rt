@@ -1,4 +1,6 @@
 // What read out and dissolve answer at full size, told as numbers: the result, and a summary of four numbers.
+#![tactic(auto)]
+
 ghost use Rattle.std.specs.Prelude.{◌≡◌, ◌≤◌, length};
 ghost use Rattle.scope.specs.Answers.{refusal_of, verdict_of};
 ghost use Rattle.telling.specs.Summary.{summary_of, Tells};

@@ -1,7 +1,7 @@
 -- The columns of a table and of a state, each filled from its place, are the table and the state of the bytes.
 -- Assumes nothing.
 use Prim.Native.Nat.{ℕ, ◌+◌, ◌*◌}
-use mathlib.Core.Path.{◌≡◌, refl, sym, ◌∙◌, ap}
+use mathlib.Core.Path.{◌≡◌}
 use mathlib.Core.List.{List, map}
 use lib.ListN.{length}
 use lib.Ieee.{Float, binary64, of_bits}

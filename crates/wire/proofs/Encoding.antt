@@ -3,10 +3,10 @@
 --     state_written                                   all of them, over as many bytes
 -- Assumes nothing.
 use Prim.Native.Nat.{ℕ, ◌+◌, ◌*◌}
-use mathlib.Core.Path.{◌≡◌, sym, ◌∙◌, ap}
-use mathlib.Core.List.{List, [], ◌++◌, append-nil}
+use mathlib.Core.Path.{◌≡◌, ◌∙◌, ap}
+use mathlib.Core.List.{List, ◌++◌, append-nil}
 use native.Mathlib.Omega.{arith}
-use lib.ListN.{length, drop, length-append, drop_of_length-le}
+use lib.ListN.{length, length-append, drop_of_length-le}
 use lib.Seq.{sets, sets-eq}
 use Rattle.scope.specs.Memory.{Memory}
 use Rattle.scope.specs.Bytes.{all32, all64, places_bytes, slots_bytes, rows_bytes, slots_from, rows_from, state_bytes}

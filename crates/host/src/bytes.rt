@@ -1,11 +1,10 @@
-// Both ways in on byte slices, for small tables, under the names that Rust and C link.
+// Both ways in on byte slices, for small tables, under the names by which host_c hands them on to Rust and C.
 ghost use Rattle.byte_calls.specs.Promises.{DissolvesBytes, CallsBytes};
 
 use byte_calls::{dissolve, standing};
 
 // Dissolves a list of cells.
-#[unsafe(no_mangle)]
-pub extern "C" fn zone_dissolve(
+pub fn zone_dissolve(
     table: &[u8],
     cells: &[u8],
     out: &mut [u8],
@@ -19,8 +18,7 @@ pub extern "C" fn zone_dissolve(
 }
 
 // Opens (call 0), offers to (1) or reads out (2) a standing state; `value` is the mode or the cell.
-#[unsafe(no_mangle)]
-pub extern "C" fn zone_standing(
+pub fn zone_standing(
     table: &[u8],
     state: &mut [u8],
     out: &mut [u8],

@@ -1,4 +1,4 @@
-// The four calls at full size, on slices of numbers as they are in the core. include/zone_outliner.h documents them for C.
+// The four calls at full size, on slices of numbers as they are in the core, answered by numbers. host_c hands them on to Rust and C.
 ghost use Rattle.scope.specs.Table.{table};
 ghost use Rattle.scope.specs.Memory.{memory, output};
 ghost use Rattle.host.specs.Full.{CallsOpen, CallsOffer, TellsReadOut, TellsDissolve};
@@ -8,8 +8,7 @@ use scope::Verdict;
 use solvent::{dissolve, offer, open, read_out};
 use telling::tell;
 
-#[unsafe(no_mangle)]
-pub extern "C" fn zo_open(
+pub fn zo_open(
     edges: &[u64],
     reverse: &[u32],
     area: &[f64],
@@ -35,8 +34,7 @@ pub extern "C" fn zo_open(
     ))
 }
 
-#[unsafe(no_mangle)]
-pub extern "C" fn zo_offer(
+pub fn zo_offer(
     edges: &[u64],
     reverse: &[u32],
     area: &[f64],
@@ -62,8 +60,7 @@ pub extern "C" fn zo_offer(
     ))
 }
 
-#[unsafe(no_mangle)]
-pub extern "C" fn zo_read_out(
+pub fn zo_read_out(
     edges: &[u64],
     reverse: &[u32],
     area: &[f64],
@@ -98,8 +95,7 @@ pub extern "C" fn zo_read_out(
     tell(summary, answer)
 }
 
-#[unsafe(no_mangle)]
-pub extern "C" fn zo_dissolve(
+pub fn zo_dissolve(
     edges: &[u64],
     reverse: &[u32],
     area: &[f64],

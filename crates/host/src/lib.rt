@@ -1,5 +1,6 @@
-// The static library for Rust and C: both ways in on byte slices, for small tables, and the four calls at full size.
-// include/zone_outliner.h documents every function. Slices come first and numbers last, so that no slice is split between registers
-// and stack.
+// Both ways in on byte slices, for small tables, and the four calls at full size, as host_c exports them for Rust and C. Slices come first
+// and numbers last, so that no slice is split between registers and stack.
+#![tactic(auto)]
+
 pub mod bytes;
-mod full;
+pub mod full;

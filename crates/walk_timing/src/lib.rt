@@ -1,4 +1,6 @@
-// The walk for the benchmark, as a static library of its own: it is timed beside the Rust's, where both do the same with each edge.
+// The walk for the benchmark: walk_timing_c hands it on, and it is timed beside the Rust's, where both do the same with each edge.
+#![tactic(auto)]
+
 ghost use Rattle.std.specs.Prelude.{◌≡◌};
 ghost use Rattle.walk_timing.specs.Mixed.{mixed};
 
@@ -6,8 +8,7 @@ use gosper::Gosper;
 use index::is_cell;
 
 // All edges of a cell's outline at a target resolution in one number, by exclusive or; 0 where there is no such outline.
-#[unsafe(no_mangle)]
-pub extern "C" fn zone_walk(cell: u64, target: usize) -> u64
+pub fn zone_walk(cell: u64, target: usize) -> u64
     ensures { result ≡ mixed cell target }
 {
     if !(is_cell(cell) & (target <= 15)) {

@@ -11,7 +11,7 @@ use Rattle.cell_text.specs.declared.Ending.{Ending}
 use Rattle.cell_text.specs.declared.Ending.TheVariants.{Whole, Fault, TooMany}
 use Rattle.cell_words.specs.declared.Wrong.TheVariants.{Word, Return}
 use Rattle.cell_words.specs.Words.{leading, blanks_after, prefix_of, number_in, sound_in, digits_of, word_of, trimmed_of, body_of, comment_at, beside_comment, line_of}
-use Rattle.cell_text.specs.Lines.{Reading, lines, reading, fitted, cells_in, mark_of, cells_of}
+use Rattle.cell_text.specs.Lines.{lines, reading, fitted, cells_in, mark_of, cells_of}
 
 text : List ℕ
 text = ascii "0x1F\n\n# a\n  aB # b\r\n2"

@@ -1,5 +1,7 @@
 // A cell list as text: one cell a line in hexadecimal, with or without 0x; blank lines, # comments and a byte order mark in front are passed over.
 // The cells go into a lent slice, with the line of each beside it; a line that is none of these is named with what is wrong and its place.
+#![tactic(auto)]
+
 ghost use Rattle.std.specs.Prelude.{◌≡◌, ◌≤◌, min, length};
 ghost use Rattle.std.proofs.lemmas.List.Edits.{sets};
 ghost use Rattle.cell_text.specs.Lines.{cells_in, mark_of, cells_of, is_whole, Stored, NextLine, Took};
@@ -8,7 +10,7 @@ use cell_words::{Kind, Line, Wrong, byte_at, leading, read_line};
 use least::least;
 
 // How a reading ends: with the text; at a fault, by its line and what is wrong there; or at a line whose cell finds no room.
-#[derive(Drop)]
+#[derive(Clone, Copy)]
 pub enum Ending {
     Whole,
     Fault(usize, Wrong),
@@ -16,14 +18,14 @@ pub enum Ending {
 }
 
 // How many cells were read, and what ended it.
-#[derive(Drop)]
+#[derive(Clone, Copy)]
 pub struct Listed {
     pub count: usize,
     pub ending: Ending,
 }
 
 // The line that begins at place `at`: what it holds, and where it ends.
-#[derive(Drop)]
+#[derive(Clone, Copy)]
 struct Next {
     line: Line,
     end: usize,

@@ -1,6 +1,6 @@
 -- A line of a cell list: blank, a comment, or one cell in hexadecimal with or without 0x. A line is a list of bytes.
 -- Assumes nothing.
-use Rattle.std.specs.Prelude.{ℕ, zero, suc, ◌+◌, ◌-◌, ◌*◌, ◌%◌, min, Bool, true, false, ◌&&◌, ◌||◌, not, cond, List, eqb, leb, ltb, length, take, drop}
+use Rattle.std.specs.Prelude.{ℕ, zero, suc, ◌+◌, ◌-◌, ◌*◌, ◌%◌, min, Bool, true, false, ◌&&◌, ◌||◌, not, cond, List, eqb, leb, length, take, drop}
 use Rattle.scope.specs.Lists.{at, first_bad}
 use Rattle.cell_words.specs.declared.Line.{Line}
 use Rattle.cell_words.specs.declared.Line.TheVariants.{Passed, Cell, Fault}

@@ -1,4 +1,6 @@
 // One line of a cell list: its comment, its blanks, and the digits of its cell.
+#![tactic(auto)]
+
 ghost use Rattle.std.specs.Prelude.{◌≡◌, true, ◌+◌, ◌≤◌, ◌<◌, ◌^◌, length};
 ghost use Rattle.scope.specs.Lists.{at};
 ghost use Rattle.cell_words.specs.Words.{is_blank, is_digit, is_of, leading as leadingOf, worth, blanks_after, prefixed, prefix_of, number_in, sound_in, digits_of, word_of, trimmed_of, body_of, is_fault, beside_comment, line_of};
@@ -6,7 +8,7 @@ ghost use Rattle.cell_words.specs.Words.{is_blank, is_digit, is_of, leading as l
 use least::least;
 
 // What a line holds: nothing to take, a cell, or a fault.
-#[derive(Drop)]
+#[derive(Clone, Copy)]
 pub enum Line {
     Passed,
     Cell(u64),
@@ -14,14 +16,14 @@ pub enum Line {
 }
 
 // What is wrong, and at which byte: no cell stands there, or a carriage return inside a comment.
-#[derive(Drop)]
+#[derive(Clone, Copy)]
 pub enum Wrong {
     Word(usize),
     Return(usize),
 }
 
 // Which bytes a scan passes.
-#[derive(Drop)]
+#[derive(Clone, Copy)]
 pub enum Kind {
     Blank,
     Digit,

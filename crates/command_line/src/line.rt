@@ -7,7 +7,7 @@ use crate::words::{Word, word_of};
 
 // What the words so far come to. Mode 2 names none, and 3 means that the next word is to be a mode. `table`, `list` (the first, where a
 // tool takes several) and `fault` are numbers of words, 0 for none.
-#[derive(Drop)]
+#[derive(Clone, Copy)]
 pub struct Line {
     pub help: bool,
     pub rows: bool,
@@ -18,7 +18,7 @@ pub struct Line {
 }
 
 // Help; a word that cannot be taken; no mode after the last --mode; a file too few; or all that is needed.
-#[derive(Drop)]
+#[derive(Clone, Copy)]
 pub enum Status {
     Help,
     Fault(usize),

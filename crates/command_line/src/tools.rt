@@ -2,7 +2,7 @@
 ghost use Rattle.std.specs.Prelude.{◌≡◌};
 ghost use Rattle.command_line.specs.Tools.{takes_options, takes_many};
 
-#[derive(Drop)]
+#[derive(Clone, Copy)]
 pub enum Tool {
     Outline,
     TillImport,

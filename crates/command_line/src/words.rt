@@ -6,7 +6,7 @@ ghost use Rattle.command_line.specs.Words.{same_text, fits as hasFitting, own_op
 use crate::tools::{Tool, takes_options};
 
 // An option that the tool has; a mode, which may be a file's name too; any other name of a file; or what no tool can take.
-#[derive(Drop)]
+#[derive(Clone, Copy)]
 pub enum Word {
     Help,
     Rows,

@@ -1,11 +1,10 @@
 -- What is said of a command line that cannot be taken: one line with the tool's name, which argument, and why.
 --     said_of      the line for a whole command line, nothing where nothing is wrong
 -- Assumes nothing.
-use Rattle.std.specs.Prelude.{ℕ, ◌-◌, cond, List, [], ◌∷◌, ◌++◌, eqb, ltb, length, get_or}
+use Rattle.std.specs.Prelude.{ℕ, ◌-◌, cond, List, [], ◌++◌, eqb, ltb, length, get_or}
 use Rattle.text.specs.Text.{ascii, shown, decimal}
 use Rattle.command_line.specs.declared.tools.Tool.{Tool}
 use Rattle.command_line.specs.declared.tools.Tool.TheVariants.{Outline, TillImport, YearAudit}
-use Rattle.command_line.specs.declared.line.Line.{Line}
 use Rattle.command_line.specs.declared.line.Status.{Status}
 use Rattle.command_line.specs.declared.line.Status.TheVariants.{Help, Fault, ModeWanted, FilesWanted, Ready}
 use Rattle.command_line.specs.Words.{begins_as_option}

@@ -4,7 +4,7 @@ use Rattle.std.proofs.Common.{◌≡◌, Bool, true, false, cond, ◌&&◌, [], 
 use lib.Ieee.{Float, nan, binary64, div, of_bits, neg, lt, to_unsigned}
 use Rattle.scope.proofs.Tests.{and_both}
 use Rattle.text.specs.Text.{ascii}
-use Rattle.note_text.specs.Notes.{pointed, scaled, has_whole, area_decimal}
+use Rattle.note_text.specs.Notes.{pointed, scaled, area_decimal}
 
 module _ (x : Float) where
   pub area_whole : lt (neg (of_bits binary64 0x3ff0000000000000)) (scaled x) ≡ true → lt (scaled x) (of_bits binary64 0x43f0000000000000) ≡ true

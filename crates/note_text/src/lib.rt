@@ -1,4 +1,6 @@
 // Notes: a number between words, and an area.
+#![tactic(auto)]
+
 ghost use Rattle.std.specs.Prelude.{◌≡◌, ◌≤◌, length};
 ghost use Rattle.text.specs.Text.{Wrote};
 ghost use Rattle.note_text.specs.Notes.{noted, pointed, scaled, has_whole, area_decimal, area_text};

@@ -1,7 +1,7 @@
 -- An outline as text: what it counts, then each polygon with its rings, the outer first: group, area and edges.
 -- A ring list is four lists of one length, as read out writes them; rings of one polygon follow each other and have one group.
 -- Assumes nothing.
-use Rattle.std.specs.Prelude.{ℕ, ◌+◌, ◌-◌, Bool, ◌||◌, not, cond, List, [], ◌++◌, eqb, Float, get_or}
+use Rattle.std.specs.Prelude.{ℕ, ◌+◌, ◌-◌, Bool, ◌||◌, not, cond, List, ◌++◌, eqb, Float, get_or}
 use Rattle.std.specs.Float.{nan}
 use Rattle.scope.specs.Lists.{at}
 use Rattle.scope.specs.Bytes.{joined}

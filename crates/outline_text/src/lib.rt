@@ -1,4 +1,6 @@
 // An outline as text: a summary, then each polygon with its rings, the outer first.
+#![tactic(auto)]
+
 ghost use Rattle.std.specs.Prelude.{◌≡◌, ◌≤◌, ◌<◌, ◌^◌, length, get_or};
 ghost use Rattle.std.specs.Float.{nan};
 ghost use Rattle.scope.specs.Lists.{at};

@@ -8,7 +8,7 @@ use lib.Dec.{eqb, leb}
 use Rattle.text.specs.Text.{ascii, unbroken, one_line}
 use Rattle.text.proofs.Lines.{unbroken_more, either_unbroken, name_unbroken, number_unbroken, line_behind}
 use Rattle.note_text.specs.Notes.{noted}
-use Rattle.refusal_text.specs.Refusals.{memory_words, refusal_words, row_words, reason_words, refusal_place, refusal_text}
+use Rattle.refusal_text.specs.Refusals.{memory_words, refusal_words, reason_words, refusal_place, refusal_text}
 
 memory_unbroken : (n : ℕ) → unbroken (memory_words n) ≡ true
 unfolding unbroken

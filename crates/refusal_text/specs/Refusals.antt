@@ -1,6 +1,6 @@
 -- Refusals in words, with their number, and with the line of the cell or the row of the table that they point at.
 -- Assumes nothing.
-use Rattle.std.specs.Prelude.{ℕ, Bool, ◌&&◌, cond, List, [], ◌++◌, eqb, leb}
+use Rattle.std.specs.Prelude.{ℕ, ◌&&◌, cond, List, [], ◌++◌, eqb, leb}
 use Rattle.text.specs.Text.{ascii, shown}
 use Rattle.note_text.specs.Notes.{noted}
 

@@ -1,4 +1,6 @@
 // Refusals in words.
+#![tactic(auto)]
+
 ghost use Rattle.std.specs.Prelude.{◌≤◌, length};
 ghost use Rattle.text.specs.Text.{Wrote};
 ghost use Rattle.refusal_text.specs.Refusals.{memory_words, refusal_words, row_words, reason_words, refusal_place, refusal_text};

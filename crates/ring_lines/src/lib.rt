@@ -1,5 +1,7 @@
 // The rings of a zone, each as a list on one line, as text into a lent slice.
 // Every slice is read as far as it goes, and 0 past its end, so that nothing is asked of them.
+#![tactic(auto)]
+
 ghost use Rattle.std.specs.Prelude.{◌≤◌, ◌<◌, ◌^◌, length};
 ghost use Rattle.scope.specs.Memory.{output};
 ghost use Rattle.text.specs.Text.{Wrote};

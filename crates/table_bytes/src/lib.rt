@@ -1,4 +1,6 @@
 // The bytes of a table file into lent slices: rows of 20 bytes, as the library for Rust and C takes them.
+#![tactic(auto)]
+
 ghost use Rattle.std.specs.Prelude.{◌≡◌, ◌*◌, ◌≤◌, length};
 ghost use Rattle.scope.specs.Table.{table};
 ghost use Rattle.scope.specs.Bytes.{rows_in, table_in};
@@ -8,7 +10,7 @@ use least::least;
 use wire::columns::decode_table;
 
 // So many rows; a row that is cut off, or the first that there is no room for, by the byte that it begins at.
-#[derive(Drop)]
+#[derive(Clone, Copy)]
 pub enum TableFile {
     Rows(usize),
     CutOff(usize),

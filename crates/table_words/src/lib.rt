@@ -1,4 +1,6 @@
 // A table's check told in words: where it is refused, one line that names the file, the row, its byte, and the rule that it breaks.
+#![tactic(auto)]
+
 pub mod rules;
 mod words;
 
@@ -11,7 +13,7 @@ use scope::Verdict;
 use words::put_fault;
 
 // How long the text is, and whether the table keeps the rules.
-#[derive(Drop)]
+#[derive(Clone, Copy)]
 pub struct Told {
     pub size: usize,
     pub passes: bool,

@@ -11,7 +11,7 @@ use slices::at32;
 use table_rules::{is_finite, one_resolution, row_ascends};
 
 // What is wrong with a table as a whole: columns of unequal lengths, too few or too many rows, edges of unequal resolutions.
-#[derive(Drop)]
+#[derive(Clone, Copy)]
 pub enum WholeFault {
     Lengths,
     TooFew,
@@ -21,7 +21,7 @@ pub enum WholeFault {
 
 // The first rule that a row breaks: no valid edge, not above the row before it, its reverse row past the end, the row itself or one that
 // does not name it back, an area term that is not finite; or none.
-#[derive(Drop)]
+#[derive(Clone, Copy)]
 pub enum RowFault {
     NoEdge,
     NotAbove,
@@ -33,7 +33,7 @@ pub enum RowFault {
 }
 
 // The first is of refusals that point at no row.
-#[derive(Drop)]
+#[derive(Clone, Copy)]
 pub enum Fault {
     Whole(WholeFault),
     Row(RowFault),

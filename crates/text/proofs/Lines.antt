@@ -5,7 +5,7 @@
 --     name-.., number-..                  a name or a number before a text that ends no line, and before one line
 --     LineEnd, line_end                   what `one_line` says: a line end at the end, and none before
 -- Assumes nothing.
-use Prim.Native.Nat.{ℕ, zero, suc, ◌+◌, ◌-◌, ◌/◌, ◌%◌, ◌<◌}
+use Prim.Native.Nat.{ℕ, zero, suc, ◌+◌, ◌-◌, ◌/◌, ◌%◌}
 use mathlib.Core.Path.{◌≡◌, refl, sym, ◌∙◌, ap}
 use mathlib.Core.Bool.{Bool, true, false, ◌&&◌, cond, not}
 use mathlib.Core.List.{List, [], ◌∷◌, ◌++◌}

@@ -1,5 +1,7 @@
 // Text into a lent slice of bytes, piece by piece. Each function writes from place `at` on and answers the place after it; what
 // does not fit is left out, so that a full slice means that the text was as long or longer.
+#![tactic(auto)]
+
 ghost use Rattle.std.specs.Prelude.{◌≡◌, [], ◌∷◌, ◌≤◌, ◌<◌, ◌-◌, length};
 ghost use Rattle.text.specs.Text.{shown_byte, shown, glyph as glyphOf, numeral, Wrote};
 

@@ -1,5 +1,7 @@
 // A zone as lines for the tills, as text into a lent slice: one line with its answer, then each ring as a list on one line.
 // Every slice is read as far as it goes, and 0 past its end, so that nothing is asked of them.
+#![tactic(auto)]
+
 ghost use Rattle.std.specs.Prelude.{◌≡◌, ◌≤◌, length};
 ghost use Rattle.scope.specs.Memory.{output};
 ghost use Rattle.text.specs.Text.{Wrote};
@@ -15,7 +17,7 @@ use scope::ReadOut;
 use text::{put_bytes, put_shown};
 
 // What is told of a zone: so many bytes of its answer, or of the refusal; nothing where they would fill the room.
-#[derive(Drop)]
+#[derive(Clone, Copy)]
 pub enum Told {
     Answer(usize),
     Refusal(usize),

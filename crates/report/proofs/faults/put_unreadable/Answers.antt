@@ -1,0 +1,7 @@
+-- `report::faults/put_unreadable` meets its contract.
+-- Assumes nothing.
+use Rattle.text.proofs.Writing.{wrote_more}
+use Rattle.report.proofs.faults.put_unreadable.Goals as goal
+
+pub returns : goal.returns
+returns c = wrote_more c.put_shown-named.ensures c.put_unreadable_words.ensures

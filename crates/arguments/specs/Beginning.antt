@@ -1,7 +1,7 @@
 -- Where a tool begins: what is said of its command line, and what it is handed on. Which words were given no contract can say; but a line is
 -- what `command_line` makes of some words.
 -- Assumes nothing.
-use Rattle.std.specs.Prelude.{ℕ, ◌≡◌, Bool, cond, List}
+use Rattle.std.specs.Prelude.{ℕ, ◌≡◌, cond, List}
 use Rattle.command_line.specs.declared.tools.Tool.{Tool}
 use Rattle.command_line.specs.declared.line.Line.{Line}
 use Rattle.command_line.specs.declared.line.Status.{Status}

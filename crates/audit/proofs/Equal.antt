@@ -12,7 +12,7 @@ use lib.ListN.{length}
 use lib.Seq.{ext_get_or}
 use Rattle.scope.specs.declared.ReadOut.{ReadOut}
 use Rattle.scope.specs.declared.ReadOut.TheVariants.{Nothing, Closed, Outline, Refused}
-use Rattle.scope.specs.Lists.{at, passes}
+use Rattle.scope.specs.Lists.{at}
 use Rattle.scope.specs.Answers.{verdict_of}
 use Rattle.scope.proofs.Tests.{and_left, and_right}
 use Rattle.scope.proofs.Scan.{passes_at}

@@ -3,7 +3,7 @@
 -- Assumes nothing.
 use Prim.Native.Nat.{ℕ, suc, ◌+◌, ◌≤◌, ◌<◌}
 use mathlib.Core.Path.{◌≡◌, refl, sym, ◌∙◌, ap, subst}
-use mathlib.Core.List.{List, [], ◌∷◌, ◌++◌, append-nil, append_assoc}
+use mathlib.Core.List.{List, [], ◌∷◌, ◌++◌, append-nil}
 use native.Mathlib.Numerals.{add-one}
 use native.Mathlib.Omega.{arith}
 use lib.ListN.{length, set, drop, replicate, length-append, drop_of_length-le}
@@ -16,7 +16,7 @@ use Rattle.scope.specs.Memory.{Memory}
 use Rattle.scope.specs.Calls.{Outcome, offering, offer_verdict}
 use Rattle.scope.proofs.Numbered.{number_most, offer_numbered}
 use Rattle.taking.proofs.Sizes.{Sized, sized_refl, sized_on}
-use Rattle.audit.specs.Feed.{verdicts, left_by, count_of, tally, feeding, Fed, points_unchecked}
+use Rattle.audit.specs.Feed.{verdicts, left_by, tally, feeding, points_unchecked}
 use Rattle.audit.proofs.Tally.{tally_none, tally_next, tally_length, tally_at, count_most, counts_most}
 
 -- the first i cells of the feed are offered, `done` are their verdicts, and m is what they left

@@ -1,6 +1,6 @@
 -- What an audit says, as text: the offers by their verdicts, the replays, the standing outline beside the one dissolved afresh, and the points.
 -- Assumes nothing.
-use Rattle.std.specs.Prelude.{ℕ, ◌+◌, ◌-◌, Bool, cond, List, [], ◌++◌, eqb}
+use Rattle.std.specs.Prelude.{ℕ, ◌+◌, Bool, cond, List, [], ◌++◌, eqb}
 use Rattle.scope.specs.declared.ReadOut.{ReadOut}
 use Rattle.scope.specs.declared.ReadOut.TheVariants.{Nothing, Closed, Outline, Refused}
 use Rattle.scope.specs.Lists.{at}

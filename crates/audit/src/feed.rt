@@ -46,9 +46,9 @@ pub fn offer_all(
     counts: &mut [usize],
 )
     requires { counts.old ≡ replicate 11 0 }
-    ensures { (record { counts = counts.exit.now; left = memory head.new cells.new parent.new rank.new cell_mark.new slot_row.new slot_cell.new prev.new next.new row_slot.new row_mark.new }
+    ensures { (record { counts = counts.new; left = memory head.new cells.new parent.new rank.new cell_mark.new slot_row.new slot_cell.new prev.new next.new row_slot.new row_mark.new }
         ≡ feeding (table edges.now reverse.now area.now) (memory head.old cells.old parent.old rank.old cell_mark.old slot_row.old slot_cell.old prev.old next.old row_slot.old row_mark.old) feed.now)
-        × (points_unchecked counts.exit.now ≤ length feed.now) }
+        × (points_unchecked counts.new ≤ length feed.now) }
 {
     let mut i: usize = 0;
     while i < feed.len() {

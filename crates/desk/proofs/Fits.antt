@@ -11,7 +11,7 @@ use native.Mathlib.Nat.{min-le_left, min-le_right}
 use native.Mathlib.Omega.{arith}
 use borrow.Author.Tests.{leb-true}
 use lib.Dec.{eqb, leb}
-use lib.ListN.{length, take, length-take}
+use lib.ListN.{length, length-take}
 use Rattle.scope.specs.Table.{Table}
 use Rattle.scope.specs.Bytes.{rows_in}
 use Rattle.scope.proofs.Tests.{either}

@@ -16,7 +16,7 @@ use Rattle.cell_text.specs.declared.Listed.{Listed}
 use Rattle.cell_text.specs.declared.Ending.{Ending}
 use Rattle.cell_text.specs.Lines.{Reading, cells_of, Stored}
 use Rattle.table_bytes.specs.declared.TableFile.{TableFile}
-use Rattle.table_bytes.specs.Files.{file_of, room_of, table_after, TableRead}
+use Rattle.table_bytes.specs.Files.{file_of, room_of, TableRead}
 use Rattle.report.specs.Faults.{unreadable_text, too_long_text, table_fault_text, list_fault_text}
 use Rattle.files.specs.declared.Reason.{Reason}
 use Rattle.files.specs.declared.FileRead.{FileRead}
@@ -25,7 +25,7 @@ use Rattle.files.specs.Files.{count_of as bytesRead}
 use Rattle.desk.specs.declared.Loaded.{Loaded}
 use Rattle.desk.specs.declared.Loaded.TheVariants.{Nothing}
 use Rattle.desk.specs.declared.Taken.{Taken}
-use Rattle.desk.specs.Loads.{whole, none, InFront, rows_loaded, TableLoad, table_loaded, LoadsTable, cells_loaded, CellLoad, read_into, list_loaded, LoadsCells}
+use Rattle.desk.specs.Loads.{whole, InFront, rows_loaded, table_loaded, LoadsTable, cells_loaded, read_into, list_loaded, LoadsCells}
 use Rattle.desk.specs.Taking.{came_of, table_complaint, TakesRows, TakesTable, list_complaint, TakesList, TakesCells}
 
 came_in_front : (file : FileRead) (text : List ℕ) → bytesRead file ≤ length text → InFront (came_of file text) text

@@ -6,7 +6,7 @@ use mathlib.Core.List.{List}
 use lib.Ieee.{Float}
 use lib.ListN.{replicate}
 use Rattle.scope.specs.Area.{positive_zero}
-use Rattle.scope.specs.Memory.{Output, output}
+use Rattle.scope.specs.Memory.{output}
 use Rattle.desk.specs.Outputs.{new_output}
 
 module _ {start start' size size' group group' : List ℕ} {area area' : List Float} {rows rows' : List ℕ} where

@@ -9,7 +9,7 @@ use Rattle.report.specs.Faults.{unreadable_text, too_long_text, table_fault_text
 use Rattle.files.specs.declared.FileRead.{FileRead}
 use Rattle.files.specs.declared.FileRead.TheVariants as read
 use Rattle.desk.specs.declared.Taken.{Taken}
-use Rattle.desk.specs.Loads.{Came, whole, none, TableLoad, table_loaded, CellLoad, list_loaded}
+use Rattle.desk.specs.Loads.{Came, whole, none, table_loaded, list_loaded}
 
 -- the bytes at the front of the buffer that the file was read into
 abbrev pub came_of : FileRead → List ℕ → Came

@@ -1,5 +1,7 @@
 // What the tools share: files loaded into lent slices, arrays of full size, reports and their printing. A file that cannot be taken is
 // answered with the one line that says why. No contract can say which bytes a file has; what becomes of them is promised.
+#![tactic(auto)]
+
 pub mod arrays;
 pub mod reports;
 pub mod tables;
@@ -15,18 +17,19 @@ use cell_text::{Ending, read_cells};
 use files::{FileRead, read_file};
 use report::faults::{put_list_fault, put_table_fault, put_too_long, put_unreadable};
 use reports::{Report, in_room};
+use std::rt::Files;
 use table_bytes::{TableFile, read_table};
 use words::say_report;
 
 // How many rows or cells were loaded.
-#[derive(Drop)]
+#[derive(Clone, Copy)]
 pub enum Loaded {
     Count(usize),
     Nothing,
 }
 
 // What was loaded, and how many bytes the complaint has: none where there is none.
-#[derive(Drop)]
+#[derive(Clone, Copy)]
 pub struct Taken {
     pub loaded: Loaded,
     pub complaint: usize,
@@ -94,7 +97,8 @@ fn complain(line: &mut [u8], size: usize, path: &[u8]) {
 
 // Loads the table at `path` into the start of the slices, by way of `text`. A complaint has a line of its own: the bytes that came stay
 // where they are.
-pub fn load_table(
+pub fn load_table<R: Files>(
+    rt: &R,
     path: &[u8],
     text: &mut [u8],
     edges: &mut [u64],
@@ -104,7 +108,7 @@ pub fn load_table(
     ensures { LoadsTable text.new (table edges.old reverse.old area.old) result (table edges.new reverse.new area.new) }
 {
     let mut line = io::large_buffer();
-    let read = read_file(path, text);
+    let read = read_file(rt, path, text);
     let taken = take_table(read, path, &mut line, text, edges, reverse, area);
     complain(&mut line, taken.complaint, path);
     taken.loaded
@@ -165,11 +169,17 @@ pub fn take_cells(
 }
 
 // Loads the cell list at `path` into the start of `cells`, with the line of each cell, by way of `text`.
-pub fn load_cells(path: &[u8], text: &mut [u8], cells: &mut [u64], lines: &mut [usize]) -> Loaded
+pub fn load_cells<R: Files>(
+    rt: &R,
+    path: &[u8],
+    text: &mut [u8],
+    cells: &mut [u64],
+    lines: &mut [usize],
+) -> Loaded
     ensures { LoadsCells text.new cells.old lines.old result cells.new lines.new }
 {
     let mut line = io::large_buffer();
-    let read = read_file(path, text);
+    let read = read_file(rt, path, text);
     let taken = take_cells(read, path, &mut line, text, cells, lines);
     complain(&mut line, taken.complaint, path);
     taken.loaded

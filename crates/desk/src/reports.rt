@@ -5,7 +5,7 @@ ghost use Rattle.desk.specs.Reports.{Page, in_room};
 use text::{put_bytes, put_shown};
 
 // A text, and whether it answers what was asked; else it says why not.
-#[derive(Drop)]
+#[derive(Clone, Copy)]
 pub struct Report {
     pub size: usize,
     pub done: bool,
@@ -13,7 +13,7 @@ pub struct Report {
 
 // A report on the file of this name, as it can be printed. One that fills its slice may have been cut off there: that is said in its place.
 pub fn in_room(text: &mut [u8], report: Report, name: &[u8]) -> Report
-    ensures { record { text = text.exit.now; report = result } ≡ in_room name.now (record { text = text.entry.now; report = report }) }
+    ensures { record { text = text.new; report = result } ≡ in_room name.now (record { text = text.old; report = report }) }
 {
     if report.size < text.len() {
         return report;

@@ -9,6 +9,7 @@ ghost use Rattle.desk.specs.Tables.{table_in, LoadsSound};
 use crate::reports::{Report, in_room};
 use crate::words::say_report;
 use crate::{Loaded, load_table};
+use std::rt::Files;
 use table_words::tell_table;
 
 // Whether the table of this name keeps the rules; where it does not, the one line that says which it breaks, as it can be printed.
@@ -19,7 +20,7 @@ pub fn report_table(
     reverse: &[u32],
     area: &[f64],
 ) -> Report
-    ensures { record { text = text.exit.now; report = result } ≡ table_in text.entry.now name.now (table edges.now reverse.now area.now) }
+    ensures { record { text = text.new; report = result } ≡ table_in text.old name.now (table edges.now reverse.now area.now) }
 {
     let told = tell_table(text, name, edges, reverse, area);
     let report = Report {
@@ -40,7 +41,8 @@ fn is_sound(name: &[u8], edges: &[u64], reverse: &[u32], area: &[f64]) -> bool
 }
 
 // Loads the table at `path` as `load_table` does, but none that breaks a rule: over such a table no zone can be dissolved.
-pub fn load_sound_table(
+pub fn load_sound_table<R: Files>(
+    rt: &R,
     path: &[u8],
     text: &mut [u8],
     edges: &mut [u64],
@@ -49,7 +51,7 @@ pub fn load_sound_table(
 ) -> Loaded
     ensures { LoadsSound text.new (table edges.old reverse.old area.old) result (table edges.new reverse.new area.new) }
 {
-    let Loaded::Count(rows) = load_table(path, text, edges, reverse, area) else {
+    let Loaded::Count(rows) = load_table(rt, path, text, edges, reverse, area) else {
         return Loaded::Nothing;
     };
     if is_sound(path, &edges[..rows], &reverse[..rows], &area[..rows]) {

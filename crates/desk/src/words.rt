@@ -3,7 +3,10 @@
 ghost use Rattle.std.specs.Prelude.{◌≤◌, length};
 
 use crate::reports::Report;
-use libc::{STDERR_FILENO, STDOUT_FILENO};
+
+const STDOUT_FILENO: i32 = 1;
+
+const STDERR_FILENO: i32 = 2;
 
 // An answer that a full disk or a closed output does not take is not lost without a word.
 fn write(fd: i32, words: &[u8]) {

@@ -32,7 +32,6 @@ use Rattle.scope.proofs.Lengths.{Lengths, lengths_kept}
 use Rattle.scope.proofs.Sound.{Sound, state_sound, offered}
 use Rattle.scope.proofs.Taking.{taken_room}
 use Rattle.scope.proofs.TakingRules.{pool_same}
-use Rattle.scope.proofs.TakingCells.{Shown}
 use Rattle.scope.proofs.EnoughRoom.{read_enough}
 use Rattle.scope.proofs.Run.{refused_not, all_shown, read_leaves, read_accepts}
 use Rattle.scope.proofs.Dissolving.{opened_places, opened_slots, open_table, open_lengths, open_shown, dissolve_is}
@@ -42,7 +41,7 @@ use Rattle.audit.specs.Same.{same_at, same_numbers, bits_at, same_bits_at, same_
 use Rattle.audit.proofs.FromOpened.{accepted_all, held_are}
 use Rattle.full_size.specs.Drawing.{Drawn, drawn, full_memory, drawing}
 use Rattle.full_size.proofs.Anew.{dissolve_anew}
-use Rattle.feed_audit.specs.Audit.{Begun, beginning, FedRead, reading_fed, Standing, stood, standing, Compared, comparing, Audit, auditing}
+use Rattle.feed_audit.specs.Audit.{beginning, reading_fed, Standing, standing, comparing, auditing}
 use Rattle.feed_audit.proofs.Full.{after}
 
 -- ---- an outline is the same as itself

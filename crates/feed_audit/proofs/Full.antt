@@ -21,7 +21,7 @@ use Rattle.taking.proofs.Sizes.{Sized, opened_same}
 use Rattle.audit.specs.Feed.{verdicts, left_by, tally, feeding}
 use Rattle.full_size.specs.Drawing.{Drawn, drawn, full_memory}
 use Rattle.full_size.proofs.Anew.{same_lengths, Full, full_sized}
-use Rattle.feed_audit.specs.Audit.{Begun, beginning, FedRead, reading_fed, Standing, stood}
+use Rattle.feed_audit.specs.Audit.{beginning, reading_fed, Standing, stood}
 
 -- where an opening is refused, no state is looked at
 unread : (o : Output) (a b : Bool) (v w w' x x' : Verdict) (d d' : Reading) (k k' : Memory) {number index : ℕ} → (require (b && true) 10 0 ▷ v) ≡ Refused number index

@@ -10,7 +10,7 @@ use Rattle.scope.specs.Memory.{Memory, Output, held_cells}
 use Rattle.scope.specs.Calls.{opening, reading_out}
 use Rattle.audit.specs.Feed.{Fed, feeding}
 use Rattle.audit.specs.Same.{same_answer, same_output}
-use Rattle.full_size.specs.Drawing.{Drawn, full_memory, drawing}
+use Rattle.full_size.specs.Drawing.{full_memory, drawing}
 
 -- ---- in any memory
 

@@ -18,14 +18,14 @@ use slices::at32;
 use solvent::{open, read_out};
 
 // The verdict of the opening, and what read out answers.
-#[derive(Drop)]
+#[derive(Clone, Copy)]
 pub struct Answers {
     pub opened: Verdict,
     pub standing: ReadOut,
 }
 
 // The same, and how many cells are held.
-#[derive(Drop)]
+#[derive(Clone, Copy)]
 pub struct Stood {
     pub answers: Answers,
     pub held: usize,
@@ -58,7 +58,7 @@ fn offer_anew(
     counts: &mut [usize],
 ) -> Verdict
     requires { counts.old ≡ replicate 11 0 }
-    ensures { record { opened = result; fed = record { counts = counts.exit.now; left = memory head.new cells.new parent.new rank.new cell_mark.new slot_row.new slot_cell.new prev.new next.new row_slot.new row_mark.new } }
+    ensures { record { opened = result; fed = record { counts = counts.new; left = memory head.new cells.new parent.new rank.new cell_mark.new slot_row.new slot_cell.new prev.new next.new row_slot.new row_mark.new } }
         ≡ beginning (table edges.now reverse.now area.now) (memory head.old cells.old parent.old rank.old cell_mark.old slot_row.old slot_cell.old prev.old next.old row_slot.old row_mark.old) feed.now }
 {
     let opened = open(

@@ -1,5 +1,7 @@
 // A whole audit: a feed offered one by one to a newly opened state, what stands then, and the same dissolved afresh from the held cells. Each
 // of the two has its memory of full size in a frame of its own.
+#![tactic(auto)]
+
 pub mod fed;
 
 ghost use Rattle.std.specs.Prelude.{◌≡◌, replicate};
@@ -14,7 +16,7 @@ use full_size::dissolve_list;
 use scope::ReadOut;
 
 // The answers of opening and read out, one visit to each held cell, and whether the cells dissolved afresh give the same.
-#[derive(Drop)]
+#[derive(Clone, Copy)]
 pub struct Audited {
     pub answers: Answers,
     pub visits: usize,

@@ -1,4 +1,6 @@
 // Dissolve in memory of full size: 65,536 slots, 16,384 places, and as many rows as the table has. The tools lend the outputs alone.
+#![tactic(auto)]
+
 ghost use Rattle.std.specs.Prelude.{◌≡◌, ◌≤◌, min};
 ghost use Rattle.scope.specs.Table.{table};
 ghost use Rattle.scope.specs.Memory.{output};

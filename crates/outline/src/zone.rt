@@ -73,8 +73,8 @@ pub fn draw_zone(
     mode: usize,
     by_row: bool,
 ) -> Report
-    ensures { record { text = text.exit.now; report = result }
-        ≡ zone_in text.entry.now table_name.now list_name.now (length cells.now) lines.now edges.now by_row (drawing (table edges.now reverse.now area.now) mode cells.now new_output) }
+    ensures { record { text = text.new; report = result }
+        ≡ zone_in text.old table_name.now list_name.now (length cells.now) lines.now edges.now by_row (drawing (table edges.now reverse.now area.now) mode cells.now new_output) }
 {
     let mut start = ring_numbers();
     let mut size = ring_numbers();

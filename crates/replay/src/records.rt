@@ -7,7 +7,7 @@ use check::same;
 use codec::{read_u32, read_u64};
 use slices::wide32;
 
-#[derive(Drop)]
+#[derive(Clone, Copy)]
 pub(crate) struct Tally {
     pub answers: u64,
     pub otherwise: u64,
@@ -47,7 +47,7 @@ fn one_unless(answered: bool) -> u64
 }
 
 // Where the input of a record ends and its output begins, and where the record ends; `input` is where its head does.
-#[derive(Drop)]
+#[derive(Clone, Copy)]
 struct Bounds {
     output: usize,
     end: usize,

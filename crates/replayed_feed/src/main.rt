@@ -1,5 +1,7 @@
 // Cells offered one by one to a standing state in bytes, as a host does: T8 and T9 with a slot too few and with enough, and a
 // feed that sends cells again. What is read out at the end is held to a dissolve of the cells that were accepted.
+#![tactic(auto)]
+
 mod show;
 
 ghost use Rattle.std.specs.Prelude.{◌+◌, ◌*◌, ◌≤◌, length};
@@ -114,11 +116,11 @@ fn replay(table: &[u8], title: &[u8], feed: &[u64], slots: u32)
     replay_in(table, &mut state[..size], feed, slots);
 }
 
-fn main() {
+fn main(rt: HostRuntime) {
     let mut table = [0u8; 1200];
     let seven = SEVEN;
     let feed = FEED;
-    let read = read_file(b"seven_r9.table", &mut table);
+    let read = read_file(&rt, b"seven_r9.table", &mut table);
     show_file(read);
     replay(&table, b"T8", &seven[..6], 27);
     replay(&table, b"T8", &seven[..6], 28);

@@ -3,7 +3,8 @@ ghost use Rattle.std.specs.Prelude.{◌≤◌, length};
 
 use codec::read_u32;
 use files::FileRead;
-use libc::STDOUT_FILENO;
+
+const STDOUT_FILENO: i32 = 1;
 
 fn show_number(word: &[u8], number: u64) {
     io::write_all(STDOUT_FILENO, word);

@@ -80,8 +80,8 @@ pub fn import_list(
     area: &[f64],
     cells: &[u64],
 ) -> Report
-    ensures { record { text = text.exit.now; report = result }
-        ≡ zone_in text.entry.now table.now list.now (length cells.now) lines.now edges.now (drawing (table_of edges.now reverse.now area.now) no_mode cells.now new_output) }
+    ensures { record { text = text.new; report = result }
+        ≡ zone_in text.old table.now list.now (length cells.now) lines.now edges.now (drawing (table_of edges.now reverse.now area.now) no_mode cells.now new_output) }
 {
     let mut start = ring_numbers();
     let mut size = ring_numbers();

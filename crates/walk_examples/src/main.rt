@@ -1,12 +1,15 @@
 // The worked examples of the walk that are run: for each cell and target how many edges the outline has, a digest of all
 // of them, and the first six. What it must write was written by the Rust's own walk: rust/oracle, example `walks`.
+#![tactic(auto)]
+
 ghost use Rattle.std.specs.Prelude.{◌≡◌, true, ◌≤◌};
 ghost use Rattle.scope.specs.Cells.{valid_cell};
 ghost use Rattle.scope.specs.Walk.{outline};
 ghost use Rattle.walk_examples.specs.Digest.{digest_from};
 
 use gosper::Gosper;
-use libc::STDOUT_FILENO;
+
+const STDOUT_FILENO: i32 = 1;
 
 // T1 to T6; delta 7, 8 and 10; pentagons at several deltas; hexagons under pentagons and elsewhere.
 const CELLS: [u64; 35] = [

@@ -1,5 +1,7 @@
 // The worked examples that are run, each a zone dissolved over the real table of a file: the empty list, T7 to T9, a list that
 // names a cell again, all 122 cells of resolution 0, and one cell whose outline of 13,122 edges fits a table.
+#![tactic(auto)]
+
 mod show;
 
 ghost use Rattle.std.specs.Prelude.{◌≡◌};
@@ -10,6 +12,7 @@ use desk::arrays::{edge_numbers, row_floats, row_numbers, row_words, text_bytes}
 use desk::{Loaded, load_table};
 use full_size::dissolve_list;
 use show::{show_answer, show_title};
+use std::rt::Files;
 
 // Six hexagons of resolution 9, around the one in their middle.
 const AROUND: [u64; 6] = [
@@ -71,18 +74,18 @@ fn rows_of(table: Loaded) -> usize
 }
 
 // Dissolves a list of cells over the table of a file, and shows what comes of it.
-fn show_zone(title: &[u8], file: &[u8], list: &[u64], mode: usize) {
+fn show_zone<R: Files>(rt: &R, title: &[u8], file: &[u8], list: &[u64], mode: usize) {
     let mut edges = row_words();
     let mut reverse = row_numbers();
     let mut area = row_floats();
     let mut text = text_bytes();
-    let table = load_table(file, &mut text, &mut edges, &mut reverse, &mut area);
+    let table = load_table(rt, file, &mut text, &mut edges, &mut reverse, &mut area);
     let rows = rows_of(table);
     show_title(title, rows, list.len());
     show_dissolved(&edges[..rows], &reverse[..rows], &area[..rows], list, mode);
 }
 
-fn main() {
+fn main(rt: HostRuntime) {
     let around = AROUND;
     let seven = [
         around[0], around[1], around[2], around[3], around[4], around[5], CENTRE,
@@ -90,16 +93,17 @@ fn main() {
     let again = [CENTRE, around[0], CENTRE];
     let world = base_cells();
     let coarse = [COARSE];
-    show_zone(b"the empty list", b"seven_r9.table", &around[..0], 0);
-    show_zone(b"T7, two hexagons", b"seven_r9.table", &around[..2], 0);
+    show_zone(&rt, b"the empty list", b"seven_r9.table", &around[..0], 0);
+    show_zone(&rt, b"T7, two hexagons", b"seven_r9.table", &around[..2], 0);
     show_zone(
+        &rt,
         b"T8, six around an absent one",
         b"seven_r9.table",
         &around,
         0,
     );
-    show_zone(b"T9, then the centre", b"seven_r9.table", &seven, 0);
-    show_zone(b"a cell named again", b"seven_r9.table", &again, 0);
-    show_zone(b"all of resolution 0", b"world_r0.table", &world, 0);
-    show_zone(b"delta 7", b"gosper_d7_r9.table", &coarse, 1);
+    show_zone(&rt, b"T9, then the centre", b"seven_r9.table", &seven, 0);
+    show_zone(&rt, b"a cell named again", b"seven_r9.table", &again, 0);
+    show_zone(&rt, b"all of resolution 0", b"world_r0.table", &world, 0);
+    show_zone(&rt, b"delta 7", b"gosper_d7_r9.table", &coarse, 1);
 }

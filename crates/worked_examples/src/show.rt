@@ -1,8 +1,9 @@
 // What an example writes: its title with the sizes of what it is given, then the answer.
 use codec::bits_of;
-use libc::STDOUT_FILENO;
 use scope::ReadOut;
 use slices::wide32;
+
+const STDOUT_FILENO: i32 = 1;
 
 fn show_number(word: &[u8], number: usize) {
     io::write_all(STDOUT_FILENO, word);

@@ -1,8 +1,8 @@
 -- Accepted offers and replays are together no more than the cells of the feed.
 --     points_low     so their sum is a number of 64 bits
 -- Assumes nothing.
-use Prim.Native.Nat.{ℕ, ◌+◌, ◌≤◌, ◌<◌, ◌^◌}
-use mathlib.Core.Path.{◌≡◌, refl, sym, ◌∙◌, ap, subst}
+use Prim.Native.Nat.{ℕ, ◌≤◌, ◌<◌, ◌^◌}
+use mathlib.Core.Path.{◌≡◌, refl, sym, subst}
 use mathlib.Core.List.{List, [], ◌∷◌}
 use native.Mathlib.Omega.{arith}
 use lib.ListN.{length}
@@ -15,7 +15,7 @@ use Rattle.scope.specs.Calls.{offering, opening}
 use Rattle.audit.specs.Feed.{verdicts, feeding, tally, points_unchecked}
 use Rattle.audit.proofs.Tally.{tally_at, counts_most}
 use Rattle.full_size.specs.Drawing.{full_memory}
-use Rattle.feed_audit.specs.Audit.{Begun, beginning, FedRead, reading_fed, Standing, standing, Audit, auditing}
+use Rattle.feed_audit.specs.Audit.{beginning, reading_fed, standing, Audit, auditing}
 
 verdicts_many : (t : Table) (m : Memory) (xs : List ℕ) → length (verdicts t m xs) ≡ length xs
 unfolding verdicts

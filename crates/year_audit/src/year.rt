@@ -111,8 +111,8 @@ pub(crate) fn audit_feed(
     feed: &[u64],
 ) -> Report
     requires { length feed.now ≤ 65536 }
-    ensures { record { text = text.exit.now; report = result }
-        ≡ audit_in text.entry.now table_name.now feed_name.now (length feed.now) (auditing (table edges.now reverse.now area.now) feed.now new_output new_output) }
+    ensures { record { text = text.new; report = result }
+        ≡ audit_in text.old table_name.now feed_name.now (length feed.now) (auditing (table edges.now reverse.now area.now) feed.now new_output new_output) }
 {
     let mut start = ring_numbers();
     let mut size = ring_numbers();

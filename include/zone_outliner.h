@@ -1,6 +1,6 @@
 /* The zone outliner: sets of H3 cells dissolved into closed outlines.
  *
- * The static library target/staticlib/libhost.a (made by `rt staticlib host`) has two faces:
+ * The static library target/staticlib/libhost.a (made by `bin/static_library host`) has two faces:
  *
  *   zone_*   both ways in on byte slices, for small tables: at most 1,024 rows, 1,024 slots, 256 places and 256 cells;
  *   zo_*     the four calls at full size, on slices of numbers: 2 to 65,536 rows, 1 to 65,536 slots, 1 to 16,384 places, and a list of

@@ -1,6 +1,6 @@
 #!/usr/bin/env bash
 # The tools on their samples and on damaged files: what each writes to standard output, its one line on standard error, its exit status.
-# The tools are in target/bin: `rt check` or .ci/run has built them.
+# The tools are in target/bin: bin/tool or .ci/run has put them there.
 set -u
 cd "$(dirname "$0")/.." || exit 2
 table=samples/city.table
@@ -289,6 +289,16 @@ for tool in outline till_import; do
   refused "$named.twice line 3: refused 3, this cell is there already, or lies under another" bin/$tool "$table" "$broken.twice"
 done
 tells "$named.empty: nothing, cells 0, polygons 0, rings 0, standing edges 0" bin/till_import "$table" "$broken.empty"
+
+# ---- a name that is not UTF-8: the library opens no file by it, which is told as of any file that cannot be read; as a word it is taken as any other
+
+foreign=$work/$'three\377'
+cp "$zone" "$foreign.cells"
+for tool in outline till_import year_audit; do
+  refused "$foreign.cells: this file cannot be read" bin/$tool "$table" "$foreign.cells"
+  refused "$foreign.table: this file cannot be read" bin/$tool "$foreign.table" "$zone"
+  refused "$tool: argument 1, --"$'\377'", is no option (a file of that name is given as ./--"$'\377'"); $tool --help says more" bin/$tool $'--\377' "$table" "$zone"
+done
 
 # ---- lists that dissolve refuses, each with the line of the cell
 

@@ -12,7 +12,7 @@ fn main() {
     println!("cargo::rerun-if-changed={}", archive.display());
     if !archive.exists() {
         println!(
-            "cargo::error={} is not there: run `rt staticlib host` at the root of the repository, or name its folder in ZONE_LIB",
+            "cargo::error={} is not there: run `bin/static_library host` at the root of the repository, or name its folder in ZONE_LIB",
             archive.display()
         );
         return;

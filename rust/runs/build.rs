@@ -1,7 +1,7 @@
 //! Says what is there when the runs are built.
-//! - cfgs `subject` and `exports`: the library under test, the archive that `rt staticlib host` writes at the root of the repository (or in
+//! - cfgs `subject` and `exports`: the library under test, the archive that `bin/static_library host` writes at the root of the repository (or in
 //!   the folder ZONE_LIB), has the byte entry points, and the calls at full size. Without it the runs compare the rules with the oracle alone.
-//! - cfg `walk`: the walk alone, which `rt staticlib walk_timing` writes, for the benchmark.
+//! - cfg `walk`: the walk alone, which `bin/static_library walk_timing` writes, for the benchmark.
 //! - cfg `h3o`: the oracle has the crate's texts (the same test as in its build.rs).
 use std::{env, fs, path::Path, path::PathBuf};
 

@@ -75,7 +75,7 @@ fn walk(name: &str, cell: u64, target: u32) {
     let outline = || CellIndex(black_box(cell)).outline(resolution);
     let rust = || outline().fold(0, |edges, edge| edges ^ edge.0);
     if subject::walk(cell, target) != Some(rust()) {
-        println!("{name}: rt staticlib walk_timing was not there when this was built, or walks otherwise");
+        println!("{name}: target/staticlib/libwalk_timing.a was not there when this was built, or walks otherwise");
         return;
     }
     // Short walks are repeated, so that the clock counts for little.

@@ -5,26 +5,25 @@
 -- Assumes nothing.
 use mathlib.Core.Path.{◌≡◌, refl, sym, ◌∙◌, ap}
 use mathlib.Core.Bool.{Bool, true, false, ◌&&◌}
-use Prim.Native.Nat.{ℕ}
-use Rattle.scope.specs.declared.Verdict.{Verdict}
-use Rattle.scope.specs.declared.Verdict.TheVariants.{Accepted, Refused}
-use Rattle.scope.specs.Answers.{require, ◌▷◌, is_accepted}
+use Rattle.scope.specs.declared.Refusal.{Refusal}
+use Rattle.std.specs.Prelude.{Err, Ok}
+use Rattle.scope.specs.Answers.{require, ◌▷◌, is_accepted, Verdict}
 use Rattle.scope.proofs.Verdicts.{accepted}
 
 pub then_stops : {v : Verdict} (first second : Verdict) → v ≡ first → is_accepted v ≡ false → v ≡ (first ▷ second)
 then_stops first second q e = go first q e
   where
     go : {v : Verdict} (f : Verdict) → v ≡ f → is_accepted v ≡ false → v ≡ (f ▷ second)
-    go Accepted q e = cc
-    go (Refused number index) q e = q
+    go (Ok done) q e = cc
+    go (Err why) q e = q
 
 pub then_goes_on : {v : Verdict} (first second : Verdict) → v ≡ first → is_accepted v ≡ true → second ≡ (first ▷ second)
 then_goes_on {v} first second q e = sym (ap (λ (w : Verdict). w ▷ second) (sym q ∙ accepted v e))
 
 pub then_assoc : (a b c : Verdict) → ((a ▷ b) ▷ c) ≡ (a ▷ b ▷ c)
-then_assoc Accepted b c = refl
-then_assoc (Refused number index) b c = refl
+then_assoc (Ok done) b c = refl
+then_assoc (Err why) b c = refl
 
-pub require_both : (a b : Bool) (number index : ℕ) → require (a && b) number index ≡ (require a number index ▷ require b number index)
-require_both true b number index = refl
-require_both false b number index = refl
+pub require_both : (a b : Bool) (why : Refusal) → require (a && b) why ≡ (require a why ▷ require b why)
+require_both true b why = refl
+require_both false b why = refl

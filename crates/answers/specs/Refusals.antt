@@ -1,10 +1,9 @@
 -- A refusal as read out and dissolve answer it.
 -- Assumes nothing.
-use Rattle.scope.specs.declared.Verdict.{Verdict}
-use Rattle.scope.specs.declared.Verdict.TheVariants as verdict
-use Rattle.scope.specs.declared.ReadOut.{ReadOut}
-use Rattle.scope.specs.declared.ReadOut.TheVariants as readout
+use Rattle.scope.specs.Answers.{Answer, Verdict}
+use Rattle.std.specs.Prelude.{Err, Ok}
+use Rattle.scope.specs.declared.ReadOut.TheVariants.{Nothing}
 
-unfoldable pub refusal_in : Verdict → ReadOut
-refusal_in verdict.Accepted = readout.Nothing
-refusal_in (verdict.Refused number index) = readout.Refused number index
+unfoldable pub refusal_in : Verdict → Answer
+refusal_in (Ok done) = (Ok Nothing)
+refusal_in (Err why) = Err why

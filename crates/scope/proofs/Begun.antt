@@ -8,9 +8,9 @@
 use mathlib.Core.Path.{◌≡◌, refl, sym, subst}
 use mathlib.Core.List.{List, [], ◌∷◌, ◌++◌}
 use Prim.Native.Nat.{ℕ}
-use Rattle.scope.specs.declared.Verdict.{Verdict}
-use Rattle.scope.specs.declared.Verdict.TheVariants.{Accepted}
-use Rattle.scope.specs.Answers.{require, if_accepted, verdict_of}
+use Rattle.scope.specs.declared.Refusal.TheVariants.{BadLengths}
+use Rattle.std.specs.Prelude.{Ok}
+use Rattle.scope.specs.Answers.{require, if_accepted, verdict_of, Verdict}
 use Rattle.scope.specs.Table.{Table}
 use Rattle.scope.specs.Memory.{Memory, Output, opened, outputs_agree}
 use Rattle.scope.specs.Calls.{open_verdict, opening, reading, dissolve_verdict, working, dissolving}
@@ -21,13 +21,13 @@ use Rattle.scope.proofs.Run.{work_shown, run_shown}
 use Rattle.scope.proofs.Dissolving.{open_shown, reading_accepted}
 
 abbrev pub Begins : Table → Memory → Call → Type 0
-Begins t m (opens mode) = open_verdict t m mode ≡ Accepted
+Begins t m (opens mode) = open_verdict t m mode ≡ Ok tt
 Begins t m (offers x) = ⊥
 Begins t m (reads_out o) = ⊥
-Begins t m (dissolves mode xs o) = dissolve_verdict t m mode xs o ≡ Accepted
+Begins t m (dissolves mode xs o) = dissolve_verdict t m mode xs o ≡ Ok tt
 
 -- a dissolve that is carried out
-pub dissolve_begins : (t : Table) (m : Memory) (mode : ℕ) (xs : List ℕ) (o : Output) → verdict_of (dissolving t m mode xs o).answer ≡ Accepted
+pub dissolve_begins : (t : Table) (m : Memory) (mode : ℕ) (xs : List ℕ) (o : Output) → verdict_of (dissolving t m mode xs o).answer ≡ Ok tt
     → Begins t m (dissolves mode xs o)
 unfolding dissolving
 dissolve_begins t m mode xs o e = reading_accepted t m mode xs o (dissolve_verdict t m mode xs o) (working t m mode xs o) m e
@@ -39,7 +39,7 @@ call_begun t m cs (opens mode) e =
 call_begun t m cs (offers x) e = absurd e
 call_begun t m cs (reads_out o) e = absurd e
 call_begun t m cs (dissolves mode xs o) e =
-    let opening : open_verdict t m mode ≡ Accepted = unfold dissolve_verdict in first_accepts _ _ (second_accepts (require (outputs_agree o) 10 0) _ e) in
+    let opening : open_verdict t m mode ≡ (Ok tt) = unfold dissolve_verdict in first_accepts _ _ (second_accepts (require (outputs_agree o) BadLengths) _ e) in
     subst (λ (v : Verdict). Shown t (reading v (working t m mode xs o) m o).left (if_accepted v (if_accepted (verdict_of (reading v (working t m mode xs o) m o).answer) xs []) cs))
     (sym e) (work_shown t m mode xs o (open_shown t m mode opening))
 

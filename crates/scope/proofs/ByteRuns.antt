@@ -13,8 +13,8 @@ use Prim.Native.Nat.{ℕ, ◌^◌}
 use lib.Dec.{eqb}
 use lib.ListN.{length}
 use borrow.Author.Tests.{eq-eqb}
-use Rattle.scope.specs.declared.Verdict.{Verdict}
-use Rattle.scope.specs.declared.Verdict.TheVariants.{Accepted, Refused}
+use Rattle.scope.specs.Answers.{Verdict}
+use Rattle.std.specs.Prelude.{Err, Ok}
 use Rattle.scope.specs.Table.{Table, row_count}
 use Rattle.scope.specs.Memory.{Memory, opened}
 use Rattle.scope.specs.Memory as Memory
@@ -83,14 +83,14 @@ module _ (tableBytes : List ℕ) (slots places : ℕ) where
 
   -- ---- one call
 
-  store : (v : Verdict) (after : Memory) (state out : List ℕ) → ByteState state → (v ≡ Accepted → Leaves after)
+  store : (v : Verdict) (after : Memory) (state out : List ℕ) → ByteState state → (v ≡ Ok tt → Leaves after)
       → (held (storing (outcome v after (held state)) state out).state ≡ (outcome v after (held state)).left)
       × ByteState (storing (outcome v after (held state)) state out).state
   unfolding storing
-  store Accepted after state out B f =
+  store (Ok tt) after state out B f =
       let S = stored (f refl) in
       (state_back S, record { long = state_long S; low = subst PlacesLow (sym (state_back S)) (f refl).low })
-  store (Refused number index) after state out B f = (refl, B)
+  store (Err why) after state out B f = (refl, B)
 
   unfoldable pub call_of : ℕ → ℕ → Call
   call_of call value = cond (eqb call 0) (opens value) (cond (eqb call 1) (offers value) (reads_out (cleared_output (row_count t))))
@@ -99,7 +99,7 @@ module _ (tableBytes : List ℕ) (slots places : ℕ) where
     abbrev m : Memory
     m = held state
 
-    opens_left : open_verdict t m value ≡ Accepted → Leaves (opened value m)
+    opens_left : open_verdict t m value ≡ Ok tt → Leaves (opened value m)
     opens_left e = record {
       sound = (open_shown t m value e).sound;
       low = opened_low value m;
@@ -107,7 +107,7 @@ module _ (tableBytes : List ℕ) (slots places : ℕ) where
       place_count = opened_places m value ∙ places_are state;
     }
 
-    offers_left : offer_verdict t m value ≡ Accepted → Leaves (taking t m value)
+    offers_left : offer_verdict t m value ≡ Ok tt → Leaves (taking t m value)
     offers_left e =
         let O = offered t m value e in
         record {
@@ -160,7 +160,7 @@ module _ (tableBytes : List ℕ) (slots places : ℕ) where
         standings_run cs _ es k.1 ∙ ap (λ (m : Memory). (run t (calls_of cs) (record { memory = m; cells = es })).memory) k.0
 
     -- THE DEMAND
-    pub bytes_show : (cs : List ByteCall) (state out ds : List ℕ) (mode : ℕ) → ByteState state → open_verdict t (held state) mode ≡ Accepted
+    pub bytes_show : (cs : List ByteCall) (state out ds : List ℕ) (mode : ℕ) → ByteState state → open_verdict t (held state) mode ≡ Ok tt
         → Shows t (held (standings (record { out = out; call = 0; value = mode } ∷ cs) state))
         (run t (opens mode ∷ calls_of cs) (record { memory = held state; cells = ds })).cells
     unfolding call_of

@@ -14,10 +14,10 @@ use native.Mathlib.Omega.{arith}
 use lib.Dec.{leb}
 use lib.ListN.{length, get_or-append, length-append}
 use borrow.Author.Tests.{eq-eqb, ne_eqb, lt-ltb, le-ltb, le-leb, eqb-true, leb-true}
-use Rattle.scope.specs.declared.Verdict.{Verdict}
-use Rattle.scope.specs.declared.Verdict.TheVariants.{Accepted, Refused}
+use Rattle.scope.specs.declared.Refusal.TheVariants.{InvalidCell, DuplicateInput, UnsupportedResolution, TooManyCells}
+use Rattle.std.specs.Prelude.{Err, Ok}
 use Rattle.scope.specs.Lists.{at, first_bad}
-use Rattle.scope.specs.Answers.{require_none}
+use Rattle.scope.specs.Answers.{require_none, Verdict}
 use Rattle.scope.specs.Cells.{resolution_of, valid_cell, under}
 use Rattle.scope.specs.CellLists.{is_even, valid_at, differs, first_of_its_kind, resolution_fits, resolution_fits_at, not_under, under_none, in_mixed, list_verdict}
 use Rattle.scope.proofs.Tests.{either, clash}
@@ -69,23 +69,23 @@ not-true false e = refl
 -- ---- the whole list
 
 module _ (mode target capacity : ℕ) (cs : List ℕ) where
-  pub invalid_first : first_bad (valid_at cs) (length cs) < length cs → list_verdict mode target capacity cs ≡ Refused 2 (first_bad (valid_at cs) (length cs))
+  pub invalid_first : first_bad (valid_at cs) (length cs) < length cs → list_verdict mode target capacity cs ≡ Err (InvalidCell (first_bad (valid_at cs) (length cs)))
   unfolding list_verdict
   invalid_first h = rw (lt-ltb (first_bad (valid_at cs) (length cs)) (length cs) h)
 
-  pub list_good : list_verdict mode target capacity cs ≡ Accepted → ListGood mode target capacity cs
+  pub list_good : list_verdict mode target capacity cs ≡ Ok tt → ListGood mode target capacity cs
   unfolding list_verdict
   list_good e =
       let n : ℕ = length cs in
-      let t₂ = first_accepts _ _ e in let e₃ = second_accepts (require_none 2 n (first_bad (valid_at cs) n)) _ e in
-      let t₃ = first_accepts _ _ e₃ in let e₄ = second_accepts (require_none 3 n (first_bad (first_of_its_kind cs) n)) _ e₃ in
-      let t₄ = first_accepts _ _ e₄ in let e₅ = second_accepts (require_none 4 n (first_bad (resolution_fits_at mode target cs) n)) _ e₄ in
-      let t₅ : in_mixed mode (require_none 3 n (first_bad (under_none cs) n)) ≡ Accepted = first_accepts _ _ e₅ in
-      let t₈ = second_accepts (in_mixed mode (require_none 3 n (first_bad (under_none cs) n))) _ e₅ in
-      let fit = none_fails 4 (resolution_fits_at mode target cs) n t₄ in
+      let t₂ = first_accepts _ _ e in let e₃ = second_accepts (require_none InvalidCell n (first_bad (valid_at cs) n)) _ e in
+      let t₃ = first_accepts _ _ e₃ in let e₄ = second_accepts (require_none DuplicateInput n (first_bad (first_of_its_kind cs) n)) _ e₃ in
+      let t₄ = first_accepts _ _ e₄ in let e₅ = second_accepts (require_none UnsupportedResolution n (first_bad (resolution_fits_at mode target cs) n)) _ e₄ in
+      let t₅ : in_mixed mode (require_none DuplicateInput n (first_bad (under_none cs) n)) ≡ (Ok tt) = first_accepts _ _ e₅ in
+      let t₈ = second_accepts (in_mixed mode (require_none DuplicateInput n (first_bad (under_none cs) n))) _ e₅ in
+      let fit = none_fails UnsupportedResolution (resolution_fits_at mode target cs) n t₄ in
       record {
-        valid = none_fails 2 (valid_at cs) n t₂;
-        once = once_from cs n (none_fails 3 (first_of_its_kind cs) n t₃);
+        valid = none_fails InvalidCell (valid_at cs) n t₂;
+        once = once_from cs n (none_fails DuplicateInput (first_of_its_kind cs) n t₃);
         fits = fit;
         apart = λ i j h l. ⊎_elim
             (λ (m : is_even mode ≡ true).
@@ -93,28 +93,28 @@ module _ (mode target capacity : ℕ) (cs : List ℕ) where
             let q = one_resolution mode target (at cs j) m (fit j l) in
             none_finer (at cs i) (at cs j) (omega arith))
             (λ (m : is_even mode ≡ false).
-            let t : require_none 3 n (first_bad (under_none cs) n) ≡ Accepted = rw m at t₅ in
-            not-true _ (passes_at (not_under cs (at cs i)) n (none_fails 3 (under_none cs) n t i h) j l))
+            let t : require_none DuplicateInput n (first_bad (under_none cs) n) ≡ (Ok tt) = rw m at t₅ in
+            not-true _ (passes_at (not_under cs (at cs i)) n (none_fails DuplicateInput (under_none cs) n t i h) j l))
             (either (is_even mode));
-        room = leb-true n capacity (require_holds (leb n capacity) 8 0 t₈);
+        room = leb-true n capacity (require_holds (leb n capacity) TooManyCells t₈);
       }
 
-  pub list_accepted : ListGood mode target capacity cs → list_verdict mode target capacity cs ≡ Accepted
+  pub list_accepted : ListGood mode target capacity cs → list_verdict mode target capacity cs ≡ Ok tt
   unfolding list_verdict
   list_accepted g =
       let n : ℕ = length cs in
-      let nested : require_none 3 n (first_bad (under_none cs) n) ≡ Accepted =
-      none_accepts 3 (under_none cs) n (λ i h. passes_all (not_under cs (at cs i)) n (λ j l. ap not (g.apart i j h l))) in
-      both_accept _ _ (none_accepts 2 (valid_at cs) n g.valid)
-      (both_accept _ _ (none_accepts 3 (first_of_its_kind cs) n (first_from cs n g.once))
-      (both_accept _ _ (none_accepts 4 (resolution_fits_at mode target cs) n g.fits)
-      (both_accept _ _ (mixed (is_even mode) _ nested) (require_accepts (leb n capacity) 8 0 (le-leb n capacity g.room)))))
+      let nested : require_none DuplicateInput n (first_bad (under_none cs) n) ≡ (Ok tt) =
+      none_accepts DuplicateInput (under_none cs) n (λ i h. passes_all (not_under cs (at cs i)) n (λ j l. ap not (g.apart i j h l))) in
+      both_accept _ _ (none_accepts InvalidCell (valid_at cs) n g.valid)
+      (both_accept _ _ (none_accepts DuplicateInput (first_of_its_kind cs) n (first_from cs n g.once))
+      (both_accept _ _ (none_accepts UnsupportedResolution (resolution_fits_at mode target cs) n g.fits)
+      (both_accept _ _ (mixed (is_even mode) _ nested) (require_accepts (leb n capacity) TooManyCells (le-leb n capacity g.room)))))
     where
-      mixed : (b : Bool) (v : Verdict) → v ≡ Accepted → cond b Accepted v ≡ Accepted
+      mixed : (b : Bool) (v : Verdict) → v ≡ Ok tt → cond b (Ok tt) v ≡ Ok tt
       mixed true v e = refl
       mixed false v e = e
 
-pub prefix_accepted : (mode target capacity : ℕ) (cs ds : List ℕ) → list_verdict mode target capacity (cs ++ ds) ≡ Accepted → list_verdict mode target capacity cs ≡ Accepted
+pub prefix_accepted : (mode target capacity : ℕ) (cs ds : List ℕ) → list_verdict mode target capacity (cs ++ ds) ≡ Ok tt → list_verdict mode target capacity cs ≡ Ok tt
 prefix_accepted mode target capacity cs ds e =
     let g = list_good mode target capacity (cs ++ ds) e in
     let s = length-append cs ds in

@@ -13,10 +13,11 @@ use lib.Dec.{eqb}
 use lib.ListN.{length, get_or-append, length-append}
 use lib.Seq.{get_or-append-add}
 use borrow.Author.Tests.{ne_eqb}
-use Rattle.scope.specs.declared.Verdict.{Verdict}
-use Rattle.scope.specs.declared.Verdict.TheVariants.{Accepted}
+use Rattle.std.specs.Prelude.{Ok}
+use Rattle.scope.specs.declared.Refusal.{Refusal}
+use Rattle.scope.specs.declared.Refusal.TheVariants.{InvalidCell, DuplicateInput, UnsupportedResolution}
 use Rattle.scope.specs.Lists.{at, first_bad, passes}
-use Rattle.scope.specs.Answers.{require, require_none, ◌▷◌}
+use Rattle.scope.specs.Answers.{require, require_none, ◌▷◌, Verdict}
 use Rattle.scope.specs.Cells.{valid_cell}
 use Rattle.scope.specs.CellLists.{valid_at, differs, first_of_its_kind, resolution_fits, resolution_fits_at, not_under, under_none, list_verdict, not_over, cell_verdict}
 use Rattle.scope.proofs.Tests.{same}
@@ -38,15 +39,15 @@ module _ (cs : List ℕ) (x : ℕ) where
   at_new = let e : length cs ≡ length cs + 0 = omega arith in rw e (get_or-append-add cs (x ∷ []) 0 0)
 
   -- a test of the longer list that agrees with one of the held cells below their number, and at it with one of the new cell
-  more : (number : ℕ) (ok ko : ℕ → Bool) (b : Bool) → ((i : ℕ) → i < length cs → ok i ≡ ko i) → ok (length cs) ≡ b
-      → require_none number (length with) (first_bad ok (length with)) ≡ (require_none number (length cs) (first_bad ko (length cs)) ▷ require b number (length cs))
-  more number ok ko b p q = rw (one_more, require_more number ok (length cs), first_bad_same ok ko (length cs) p, q)
+  more : (why : ℕ → Refusal) (ok ko : ℕ → Bool) (b : Bool) → ((i : ℕ) → i < length cs → ok i ≡ ko i) → ok (length cs) ≡ b
+      → require_none why (length with) (first_bad ok (length with)) ≡ (require_none why (length cs) (first_bad ko (length cs)) ▷ require b (why (length cs)))
+  more why ok ko b p q = rw (one_more, require_more why ok (length cs), first_bad_same ok ko (length cs) p, q)
 
   -- the same where the held cells pass
-  last : (number : ℕ) (ok : ℕ → Bool) (b : Bool) → ((i : ℕ) → i < length cs → ok i ≡ true) → ok (length cs) ≡ b
-      → require_none number (length with) (first_bad ok (length with)) ≡ require b number (length cs)
-  last number ok b p q =
-      more number ok ok b (λ i h. refl) q ∙ ap (λ (v : Verdict). v ▷ require b number (length cs)) (none_accepts number ok (length cs) p)
+  last : (why : ℕ → Refusal) (ok : ℕ → Bool) (b : Bool) → ((i : ℕ) → i < length cs → ok i ≡ true) → ok (length cs) ≡ b
+      → require_none why (length with) (first_bad ok (length with)) ≡ require b (why (length cs))
+  last why ok b p q =
+      more why ok ok b (λ i h. refl) q ∙ ap (λ (v : Verdict). v ▷ require b (why (length cs))) (none_accepts why ok (length cs) p)
 
 -- a number up to n is below n or n
 up_to : {P : ℕ → Type 0} (n : ℕ) → ((j : ℕ) → j < n → P j) → P n → (j : ℕ) → j < suc n → P j
@@ -79,21 +80,21 @@ module _ (mode target room : ℕ) (cs : List ℕ) (x : ℕ) (g : ListGood mode t
       (λ j l. rw (at_new cs x, at_held cs x j l) (passes_at (not_under cs x) n e j l))
       (rw (at_new cs x) (ap not (not_under_itself x))))))
 
-pub offer_is_list : (mode target room capacity : ℕ) (cs : List ℕ) (x : ℕ) → list_verdict mode target room cs ≡ Accepted
+pub offer_is_list : (mode target room capacity : ℕ) (cs : List ℕ) (x : ℕ) → list_verdict mode target room cs ≡ Ok tt
     → cell_verdict mode target capacity cs x ≡ list_verdict mode target capacity (cs ++ (x ∷ []))
 unfolding list_verdict cell_verdict
 offer_is_list mode target room capacity cs x e =
     let g = list_good mode target room cs e in
     let n : ℕ = length cs in
-    let t₂ = last cs x 2 (valid_at (with cs x)) (valid_cell x) (λ i h. rw (at_held cs x i h) (g.valid i h)) (ap valid_cell (at_new cs x)) in
-    let t₃ = last cs x 3 (first_of_its_kind (with cs x)) (passes (differs cs x) n) (held_first mode target room cs x g) (new_first mode target room cs x g) in
-    let t₄ = last cs x 4 (resolution_fits_at mode target (with cs x)) (resolution_fits mode target x) (λ i h. rw (at_held cs x i h) (g.fits i h)) (ap (resolution_fits mode target) (at_new cs x)) in
-    let t₅ = more cs x 3 (under_none (with cs x)) (not_over cs x) (passes (not_under cs x) n) (held_under mode target room cs x g) (new_under mode target room cs x g) in
+    let t₂ = last cs x InvalidCell (valid_at (with cs x)) (valid_cell x) (λ i h. rw (at_held cs x i h) (g.valid i h)) (ap valid_cell (at_new cs x)) in
+    let t₃ = last cs x DuplicateInput (first_of_its_kind (with cs x)) (passes (differs cs x) n) (held_first mode target room cs x g) (new_first mode target room cs x g) in
+    let t₄ = last cs x UnsupportedResolution (resolution_fits_at mode target (with cs x)) (resolution_fits mode target x) (λ i h. rw (at_held cs x i h) (g.fits i h)) (ap (resolution_fits mode target) (at_new cs x)) in
+    let t₅ = more cs x DuplicateInput (under_none (with cs x)) (not_over cs x) (passes (not_under cs x) n) (held_under mode target room cs x g) (new_under mode target room cs x g) in
     sym (rw (t₂, t₃, t₄, t₅, one_more cs x))
 
 -- a cell in a list that passes, with the cells before it
-pub offers_in_turn : (mode target capacity : ℕ) (cs : List ℕ) (x : ℕ) (xs : List ℕ) → list_verdict mode target capacity (cs ++ (x ∷ xs)) ≡ Accepted
-    → (list_verdict mode target capacity cs ≡ Accepted) × (cell_verdict mode target capacity cs x ≡ Accepted)
+pub offers_in_turn : (mode target capacity : ℕ) (cs : List ℕ) (x : ℕ) (xs : List ℕ) → list_verdict mode target capacity (cs ++ (x ∷ xs)) ≡ Ok tt
+    → (list_verdict mode target capacity cs ≡ Ok tt) × (cell_verdict mode target capacity cs x ≡ Ok tt)
 offers_in_turn mode target capacity cs x xs e =
     let held = prefix_accepted mode target capacity cs (x ∷ xs) e in
     let with-x = prefix_accepted mode target capacity (cs ++ (x ∷ [])) xs (rw append_assoc e) in

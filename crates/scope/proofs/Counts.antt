@@ -16,12 +16,10 @@ use native.Mathlib.Omega.{arith}
 use lib.Dec.{eqb}
 use lib.ListN.{length}
 use borrow.Author.Tests.{eqb-true}
-use Rattle.scope.specs.declared.Verdict.{Verdict}
-use Rattle.scope.specs.declared.Verdict.TheVariants.{Accepted}
-use Rattle.scope.specs.declared.ReadOut.{ReadOut}
-use Rattle.scope.specs.declared.ReadOut.TheVariants as readout
+use Rattle.std.specs.Prelude.{Ok}
+use Rattle.scope.specs.declared.ReadOut.TheVariants.{Nothing, Closed, Outline}
 use Rattle.scope.specs.Lists.{at, first_bad, below, member, keep, head_or}
-use Rattle.scope.specs.Answers.{polygons_of, rings_of}
+use Rattle.scope.specs.Answers.{polygons_of, rings_of, Answer, Verdict}
 use Rattle.scope.specs.Table.{Table, row_count, table_verdict, outline_rows}
 use Rattle.scope.specs.Afresh.{successor, ring, rings, group_place}
 use Rattle.scope.specs.Memory.{Memory, Output, held, has_slot, slot_of, lengths_fit}
@@ -112,8 +110,8 @@ module _ {t : Table} {m : Memory} {cs : List ℕ} (S : Shown t m cs) where
   unfolding read_answer polygons_of rings_of
   answered = go (eqb (held m) 0) (eqb (length (lowest_rows (view t m))) 0) refl refl
     where
-      some : ReadOut
-      some = readout.Outline (polygon_count (view t m)) (length (lowest_rows (view t m))) (area_at (view t m) (head_or 0 (ordered (view t m))))
+      some : Answer
+      some = Ok (Outline (polygon_count (view t m)) (length (lowest_rows (view t m))) (area_at (view t m) (head_or 0 (ordered (view t m)))))
 
       empty : length (lowest_rows (view t m)) ≡ 0 → (0 ≡ polygon_count (view t m)) × (0 ≡ length (lowest_rows (view t m)))
       empty e = (few e, sym e)
@@ -122,8 +120,8 @@ module _ {t : Table} {m : Memory} {cs : List ℕ} (S : Shown t m cs) where
           few e = unfold polygon_count in (let k = keep_length (λ r. eqb (outer_at (view t m) r) r) (lowest_rows (view t m)) in omega arith)
 
       go : (b c : Bool) → eqb (held m) 0 ≡ b → eqb (length (lowest_rows (view t m))) 0 ≡ c
-          → (polygons_of (cond b readout.Nothing (cond c readout.Closed some)) ≡ polygon_count (view t m))
-          × (rings_of (cond b readout.Nothing (cond c readout.Closed some)) ≡ length (lowest_rows (view t m)))
+          → (polygons_of (cond b (Ok Nothing) (cond c (Ok Closed) some)) ≡ polygon_count (view t m))
+          × (rings_of (cond b (Ok Nothing) (cond c (Ok Closed) some)) ≡ length (lowest_rows (view t m)))
       go true c e d = let z = eqb-true (held m) 0 e in empty (none (lowest_rows (view t m)) (λ r i. let k = ring_held S.sound r i in omega arith))
       go false true e d = empty (eqb-true (length (lowest_rows (view t m))) 0 d)
       go false false e d = (refl, refl)
@@ -133,12 +131,12 @@ module _ {t : Table} {m : Memory} {cs : List ℕ} (S : Shown t m cs) where
 
 -- ---- after any run of calls
 
-module _ (t : Table) (m : Memory) (mode : ℕ) (calls : List Call) (checked : table_verdict t ≡ Accepted) (fits : lengths_fit t m ≡ true) where
+module _ (t : Table) (m : Memory) (mode : ℕ) (calls : List Call) (checked : table_verdict t ≡ Ok tt) (fits : lengths_fit t m ≡ true) where
   abbrev k : Memory
   k = (ran t mode m calls).memory
 
   -- THE COUNTS
-  pub run_counts : (o : Output) → read_verdict t (ran t mode m calls).memory o ≡ Accepted
+  pub run_counts : (o : Output) → read_verdict t (ran t mode m calls).memory o ≡ Ok tt
       → (polygons_of (reading_out t (ran t mode m calls).memory o).answer ≡ length (polygons t (ran t mode m calls).cells))
       × (rings_of (reading_out t (ran t mode m calls).memory o).answer ≡ length (rings t (ran t mode m calls).cells))
   unfolding reading_out

@@ -6,9 +6,10 @@
 use mathlib.Core.Path.{◌≡◌, sym, ◌∙◌, ap}
 use mathlib.Core.List.{List, [], ◌∷◌, ◌++◌, append-nil, append_assoc, map}
 use Prim.Native.Nat.{ℕ}
-use Rattle.scope.specs.declared.Verdict.{Verdict}
-use Rattle.scope.specs.declared.Verdict.TheVariants as verdict
-use Rattle.scope.specs.Answers.{require, ◌▷◌, if_accepted, verdict_of}
+use Rattle.scope.specs.declared.Refusal.{Refusal}
+use Rattle.scope.specs.declared.Refusal.TheVariants.{BadLengths}
+use Rattle.std.specs.Prelude.{Err, Ok}
+use Rattle.scope.specs.Answers.{require, ◌▷◌, if_accepted, verdict_of, Verdict}
 use Rattle.scope.specs.Table.{Table}
 use Rattle.scope.specs.Memory.{Memory, Output, opened, outputs_agree}
 use Rattle.scope.specs.Order.{view}
@@ -20,13 +21,13 @@ use Rattle.scope.proofs.Run.{all_accept, all_none, read_leaves}
 use Rattle.scope.proofs.Dissolving.{dissolve_calls, dissolve_is, reading_accepted}
 
 module _ (t : Table) where
-  pub open_left : (mode : ℕ) (calls : List Call) (h : History) → open_verdict t h.memory mode ≡ verdict.Accepted
+  pub open_left : (mode : ℕ) (calls : List Call) (h : History) → open_verdict t h.memory mode ≡ Ok tt
       → run t (opens mode ∷ calls) h ≡ run t calls (record { memory = opened mode h.memory; cells = [] })
   unfolding run leaves accepted opening
   open_left mode calls h e =
       ap (λ (v : Verdict). run t calls (record { memory = if_accepted v (opened mode h.memory) h.memory; cells = if_accepted v [] h.cells })) e
 
-  offer_left : (x : ℕ) (calls : List Call) (m : Memory) (cs : List ℕ) → offer_verdict t m x ≡ verdict.Accepted
+  offer_left : (x : ℕ) (calls : List Call) (m : Memory) (cs : List ℕ) → offer_verdict t m x ≡ Ok tt
       → run t (offers x ∷ calls) (record { memory = m; cells = cs }) ≡ run t calls (record { memory = taking t m x; cells = cs ++ (x ∷ []) })
   unfolding run leaves accepted offering
   offer_left x calls m cs e =
@@ -36,7 +37,7 @@ module _ (t : Table) where
   unfolding run leaves accepted
   read_left o m cs = rw (read_leaves t m o)
 
-  offers_left : (xs : List ℕ) (calls : List Call) (m : Memory) (cs : List ℕ) → (offering_all t m xs).answer ≡ verdict.Accepted
+  offers_left : (xs : List ℕ) (calls : List Call) (m : Memory) (cs : List ℕ) → (offering_all t m xs).answer ≡ Ok tt
       → run t (map offers xs ++ calls) (record { memory = m; cells = cs }) ≡ run t calls (record { memory = (offering_all t m xs).left; cells = cs ++ xs })
   offers_left [] calls m cs e = rw (all_none t m, append-nil cs)
   offers_left (x ∷ xs) calls m cs e =
@@ -44,7 +45,7 @@ module _ (t : Table) where
       offer_left x (map offers xs ++ calls) m cs q.0 ∙ offers_left xs calls (taking t m x) (cs ++ (x ∷ [])) q.1
       ∙ rw (q.2, ← append_assoc cs (x ∷ []) xs)
 
-  module _ (mode : ℕ) (xs : List ℕ) (o : Output) (m : Memory) (e : verdict_of (dissolving t m mode xs o).answer ≡ verdict.Accepted) where
+  module _ (mode : ℕ) (xs : List ℕ) (o : Output) (m : Memory) (e : verdict_of (dissolving t m mode xs o).answer ≡ Ok tt) where
     dissolve_leaves : leaves t (dissolves mode xs o) m ≡ (offering_all t (opened mode m) xs).left
     unfolding leaves
     dissolve_leaves =
@@ -55,7 +56,7 @@ module _ (t : Table) where
     unfolding accepted
     dissolve_accepts cs = rw (reading_accepted t m mode xs o (dissolve_verdict t m mode xs o) (working t m mode xs o) m (unfold dissolving in e), e)
 
-  dissolve_left : (mode : ℕ) (xs : List ℕ) (o : Output) (h : History) → verdict_of (dissolving t h.memory mode xs o).answer ≡ verdict.Accepted
+  dissolve_left : (mode : ℕ) (xs : List ℕ) (o : Output) (h : History) → verdict_of (dissolving t h.memory mode xs o).answer ≡ Ok tt
       → run t (dissolves mode xs o ∷ []) h ≡ record { memory = (offering_all t (opened mode h.memory) xs).left; cells = xs }
   unfolding run
   dissolve_left mode xs o h e =
@@ -63,7 +64,7 @@ module _ (t : Table) where
       λ i. record { memory = dissolve_leaves mode xs o m e i; cells = dissolve_accepts mode xs o m e h.cells i }
 
   -- DISSOLVE COUNTS AS ITS CALLS
-  pub dissolve_counts : (mode : ℕ) (xs : List ℕ) (o : Output) (h : History) → verdict_of (dissolving t h.memory mode xs o).answer ≡ verdict.Accepted
+  pub dissolve_counts : (mode : ℕ) (xs : List ℕ) (o : Output) (h : History) → verdict_of (dissolving t h.memory mode xs o).answer ≡ Ok tt
       → run t (dissolves mode xs o ∷ []) h ≡ run t (opens mode ∷ (map offers xs ++ (reads_out o ∷ []))) h
   dissolve_counts mode xs o h e =
       let m = h.memory in
@@ -72,14 +73,14 @@ module _ (t : Table) where
       ∙ offers_left xs (reads_out o ∷ []) (opened mode m) [] q.1 ∙ read_left o (offering_all t (opened mode m) xs).left xs)
 
   -- refused by 5, 6, 7 or by a short output: an opening
-  pub dissolve_opens : (mode : ℕ) (xs : List ℕ) (o : Output) (h : History) (number index : ℕ) → dissolve_verdict t h.memory mode xs o ≡ verdict.Accepted
-      → ((offering_all t (opened mode h.memory) xs).answer ▷ require (output_fits (view t (offering_all t (opened mode h.memory) xs).left) o) 10 0) ≡ verdict.Refused number index
+  pub dissolve_opens : (mode : ℕ) (xs : List ℕ) (o : Output) (h : History) (why : Refusal) → dissolve_verdict t h.memory mode xs o ≡ Ok tt
+      → ((offering_all t (opened mode h.memory) xs).answer ▷ require (output_fits (view t (offering_all t (opened mode h.memory) xs).left) o) BadLengths) ≡ Err why
       → run t (dissolves mode xs o ∷ []) h ≡ run t (opens mode ∷ []) h
   unfolding run leaves accepted dissolving working verdict_of
-  dissolve_opens mode xs o h number index e r =
+  dissolve_opens mode xs o h why e r =
       let m = h.memory in
       let done = offering_all t (opened mode m) xs in
-      let opening : open_verdict t m mode ≡ verdict.Accepted = unfold dissolve_verdict in first_accepts _ _ (second_accepts (require (outputs_agree o) 10 0) _ e) in
+      let opening : open_verdict t m mode ≡ (Ok tt) = unfold dissolve_verdict in first_accepts _ _ (second_accepts (require (outputs_agree o) BadLengths) _ e) in
       ap (λ (v : Verdict). record {
         memory = (reading v (working t m mode xs o) m o).left;
         cells = if_accepted v (if_accepted (verdict_of (reading v (working t m mode xs o) m o).answer) xs []) h.cells;
@@ -91,10 +92,10 @@ module _ (t : Table) where
       ∙ sym (open_left mode [] h opening)
 
   -- refused by its checks: nothing
-  pub dissolve_nothing : (mode : ℕ) (xs : List ℕ) (o : Output) (h : History) (number index : ℕ)
-      → dissolve_verdict t h.memory mode xs o ≡ verdict.Refused number index → run t (dissolves mode xs o ∷ []) h ≡ h
+  pub dissolve_nothing : (mode : ℕ) (xs : List ℕ) (o : Output) (h : History) (why : Refusal)
+      → dissolve_verdict t h.memory mode xs o ≡ Err why → run t (dissolves mode xs o ∷ []) h ≡ h
   unfolding run leaves accepted dissolving
-  dissolve_nothing mode xs o h number index e =
+  dissolve_nothing mode xs o h why e =
       let m = h.memory in
       ap (λ (v : Verdict). record {
         memory = (reading v (working t m mode xs o) m o).left;

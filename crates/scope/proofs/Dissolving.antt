@@ -11,9 +11,9 @@ use mathlib.Core.List.{List, [], ◌∷◌, ◌++◌}
 use Prim.Native.Nat.{ℕ}
 use native.Mathlib.Omega.{arith}
 use lib.ListN.{length}
-use Rattle.scope.specs.declared.Verdict.{Verdict}
-use Rattle.scope.specs.declared.Verdict.TheVariants as verdict
-use Rattle.scope.specs.Answers.{require, ◌▷◌, verdict_of}
+use Rattle.scope.specs.declared.Refusal.TheVariants.{BadLengths}
+use Rattle.std.specs.Prelude.{Err, Ok}
+use Rattle.scope.specs.Answers.{require, ◌▷◌, verdict_of, Verdict}
 use Rattle.scope.specs.Table.{Table, target_of, table_verdict, outline_rows}
 use Rattle.scope.specs.CellLists.{list_verdict, cell_verdict}
 use Rattle.scope.specs.Memory.{Memory, Output, kept_mode, held, held_cells, places, slots, opened, kept, lengths_fit, mode_fits, outputs_agree}
@@ -35,11 +35,11 @@ use Rattle.scope.proofs.Run.{refused_not, opened_shown, all_accept, all_none, al
 -- ---- offers in a row
 
 module _ (t : Table) where
-  all_mode : (m : Memory) (xs : List ℕ) → (offering_all t m xs).answer ≡ verdict.Accepted → kept_mode (offering_all t m xs).left ≡ kept_mode m
+  all_mode : (m : Memory) (xs : List ℕ) → (offering_all t m xs).answer ≡ Ok tt → kept_mode (offering_all t m xs).left ≡ kept_mode m
   all_mode m [] e = rw (all_none t m)
   all_mode m (x ∷ xs) e = let q = all_accept t m x xs e in rw q.2 (all_mode (taking t m x) xs q.1 ∙ taken_mode (offered t m x q.0))
 
-  all_places : (m : Memory) (xs : List ℕ) → (offering_all t m xs).answer ≡ verdict.Accepted → places (offering_all t m xs).left ≡ places m
+  all_places : (m : Memory) (xs : List ℕ) → (offering_all t m xs).answer ≡ Ok tt → places (offering_all t m xs).left ≡ places m
   all_places m [] e = rw (all_none t m)
   all_places m (x ∷ xs) e = let q = all_accept t m x xs e in rw q.2 (all_places (taking t m x) xs q.1 ∙ taken_room (offered t m x q.0))
 
@@ -56,19 +56,19 @@ unfolding opened
 opened_slots m mode = zeros_length m.slot_row
 
 -- what open has tested
-module _ (t : Table) (m : Memory) (mode : ℕ) (e : open_verdict t m mode ≡ verdict.Accepted) where
-  pub open_table : table_verdict t ≡ verdict.Accepted
+module _ (t : Table) (m : Memory) (mode : ℕ) (e : open_verdict t m mode ≡ Ok tt) where
+  pub open_table : table_verdict t ≡ Ok tt
   unfolding open_verdict
-  open_table = second_accepts (require (lengths_fit t m && mode_fits mode) 10 0) _ e
+  open_table = second_accepts (require (lengths_fit t m && mode_fits mode) BadLengths) _ e
 
   pub open_lengths : Lengths t m
   unfolding open_verdict
-  open_lengths = lengths_good t m (and_left (lengths_fit t m) (mode_fits mode) (require_holds _ 10 0 (first_accepts _ _ e)))
+  open_lengths = lengths_good t m (and_left (lengths_fit t m) (mode_fits mode) (require_holds _ BadLengths (first_accepts _ _ e)))
 
   pub open_shown : Shown t (opened mode m) []
   open_shown = opened_shown t m mode open_table open_lengths
 
-  module _ (xs : List ℕ) (a : (offering_all t (opened mode m) xs).answer ≡ verdict.Accepted) where
+  module _ (xs : List ℕ) (a : (offering_all t (opened mode m) xs).answer ≡ Ok tt) where
     abbrev last : Memory
     last = (offering_all t (opened mode m) xs).left
 
@@ -82,7 +82,7 @@ module _ (t : Table) (m : Memory) (mode : ℕ) (e : open_verdict t m mode ≡ ve
     last_places = all_places t (opened mode m) xs a ∙ opened_places m mode
 
     -- the list passes, since each offer did
-    list_passes : list_verdict (kept mode) (target_of t) (places m) xs ≡ verdict.Accepted
+    list_passes : list_verdict (kept mode) (target_of t) (places m) xs ≡ Ok tt
     list_passes =
         let S = last_shown in
         let n = shown_count S in
@@ -102,12 +102,12 @@ module _ (t : Table) (m : Memory) (mode : ℕ) (e : open_verdict t m mode ≡ ve
     inner_index = shown_count last_shown
 
     -- THE NEXT OFFER of a list that passes is refused by 5, 6 or 7, or accepted
-    pub inner_offer : (x : ℕ) (ys : List ℕ) → list_verdict (kept mode) (target_of t) (places m) (xs ++ (x ∷ ys)) ≡ verdict.Accepted
+    pub inner_offer : (x : ℕ) (ys : List ℕ) → list_verdict (kept mode) (target_of t) (places m) (xs ++ (x ∷ ys)) ≡ Ok tt
         → offer_verdict t (offering_all t (opened mode m) xs).left x ≡ outline_verdict t (offering_all t (opened mode m) xs).left (outline_rows t x)
     unfolding offer_verdict
     inner_offer x ys q =
         let S = last_shown in
-        let cell : cell_verdict (kept_mode last) (target_of t) (places last) (held_cells last) x ≡ verdict.Accepted =
+        let cell : cell_verdict (kept_mode last) (target_of t) (places last) (held_cells last) x ≡ (Ok tt) =
         rw (last_mode, last_places, S.shows.cells) (offers_in_turn (kept mode) (target_of t) (places m) xs x ys q).1 in
         rw (state_sound S.sound, cell)
 
@@ -118,52 +118,52 @@ module _ (t : Table) (m : Memory) (mode : ℕ) (xs : List ℕ) (o : Output) wher
   done = offering_all t (opened mode m) xs
 
   -- each call where its tests pass
-  pub dissolve_done : dissolve_verdict t m mode xs o ≡ verdict.Accepted → dissolving t m mode xs o ≡ working t m mode xs o
+  pub dissolve_done : dissolve_verdict t m mode xs o ≡ Ok tt → dissolving t m mode xs o ≡ working t m mode xs o
   unfolding dissolving
   dissolve_done e = ap (λ (v : Verdict). reading v (working t m mode xs o) m o) e
 
-  pub work_done : (done.answer ▷ require (output_fits (view t done.left) o) 10 0) ≡ verdict.Accepted → working t m mode xs o ≡ read_from t done.left o
+  pub work_done : (done.answer ▷ require (output_fits (view t done.left) o) BadLengths) ≡ Ok tt → working t m mode xs o ≡ read_from t done.left o
   unfolding working
   work_done e = ap (λ (v : Verdict). reading v (read_from t done.left o) (opened mode m) o) e
 
-  read_done : (k : Memory) → read_verdict t k o ≡ verdict.Accepted → reading_out t k o ≡ read_from t k o
+  read_done : (k : Memory) → read_verdict t k o ≡ Ok tt → reading_out t k o ≡ read_from t k o
   unfolding reading_out
   read_done k e = ap (λ (v : Verdict). reading v (read_from t k o) k o) e
 
   -- what read out has tested
-  read_agrees : (k : Memory) → read_verdict t k o ≡ verdict.Accepted → outputs_agree o ≡ true
+  read_agrees : (k : Memory) → read_verdict t k o ≡ Ok tt → outputs_agree o ≡ true
   unfolding read_verdict
-  read_agrees k e = require_holds _ 10 0 (first_accepts _ _ e)
+  read_agrees k e = require_holds _ BadLengths (first_accepts _ _ e)
 
-  read_fits : (k : Memory) → read_verdict t k o ≡ verdict.Accepted → output_fits (view t k) o ≡ true
+  read_fits : (k : Memory) → read_verdict t k o ≡ Ok tt → output_fits (view t k) o ≡ true
   unfolding read_verdict
-  read_fits k e = require_holds _ 10 0 (second_accepts (state_verdict t k) _ (second_accepts (require (outputs_agree o) 10 0) _ e))
+  read_fits k e = require_holds _ BadLengths (second_accepts (state_verdict t k) _ (second_accepts (require (outputs_agree o) BadLengths) _ e))
 
-  pub dissolve_is : open_verdict t m mode ≡ verdict.Accepted → (offering_all t (opened mode m) xs).answer ≡ verdict.Accepted
-      → read_verdict t (offering_all t (opened mode m) xs).left o ≡ verdict.Accepted
+  pub dissolve_is : open_verdict t m mode ≡ Ok tt → (offering_all t (opened mode m) xs).answer ≡ Ok tt
+      → read_verdict t (offering_all t (opened mode m) xs).left o ≡ Ok tt
       → dissolving t m mode xs o ≡ reading_out t (offering_all t (opened mode m) xs).left o
   unfolding dissolve_verdict
   dissolve_is e a r =
-      dissolve_done (both_accept _ _ (require_accepts _ 10 0 (read_agrees done.left r)) (both_accept _ _ e (list_passes t m mode e xs a)))
-      ∙ work_done (both_accept _ _ a (require_accepts _ 10 0 (read_fits done.left r))) ∙ sym (read_done done.left r)
+      dissolve_done (both_accept _ _ (require_accepts _ BadLengths (read_agrees done.left r)) (both_accept _ _ e (list_passes t m mode e xs a)))
+      ∙ work_done (both_accept _ _ a (require_accepts _ BadLengths (read_fits done.left r))) ∙ sym (read_done done.left r)
 
   -- ---- and back
 
   -- a reading that is no refusal was carried out
-  pub reading_accepted : (v : Verdict) (r : Reading) (k : Memory) → verdict_of (reading v r k o).answer ≡ verdict.Accepted → v ≡ verdict.Accepted
+  pub reading_accepted : (v : Verdict) (r : Reading) (k : Memory) → verdict_of (reading v r k o).answer ≡ Ok tt → v ≡ Ok tt
   unfolding verdict_of
-  reading_accepted verdict.Accepted r k e = refl
-  reading_accepted (verdict.Refused number index) r k e = refused_not e
+  reading_accepted (Ok _) r k e = refl
+  reading_accepted (Err why) r k e = refused_not e
 
-  pub dissolve_calls : verdict_of (dissolving t m mode xs o).answer ≡ verdict.Accepted
-      → (open_verdict t m mode ≡ verdict.Accepted) × ((offering_all t (opened mode m) xs).answer ≡ verdict.Accepted)
-      × (read_verdict t (offering_all t (opened mode m) xs).left o ≡ verdict.Accepted)
+  pub dissolve_calls : verdict_of (dissolving t m mode xs o).answer ≡ Ok tt
+      → (open_verdict t m mode ≡ Ok tt) × ((offering_all t (opened mode m) xs).answer ≡ Ok tt)
+      × (read_verdict t (offering_all t (opened mode m) xs).left o ≡ Ok tt)
   unfolding dissolving working dissolve_verdict read_verdict
   dissolve_calls e =
       let passed = reading_accepted (dissolve_verdict t m mode xs o) (working t m mode xs o) m e in
-      let worked = reading_accepted (done.answer ▷ require (output_fits (view t done.left) o) 10 0) (read_from t done.left o) (opened mode m)
+      let worked = reading_accepted (done.answer ▷ require (output_fits (view t done.left) o) BadLengths) (read_from t done.left o) (opened mode m)
       (rw (dissolve_done passed) at e) in
-      let agree = first_accepts (require (outputs_agree o) 10 0) _ passed in
-      let opening : open_verdict t m mode ≡ verdict.Accepted = first_accepts _ _ (second_accepts (require (outputs_agree o) 10 0) _ passed) in
+      let agree = first_accepts (require (outputs_agree o) BadLengths) _ passed in
+      let opening : open_verdict t m mode ≡ (Ok tt) = first_accepts _ _ (second_accepts (require (outputs_agree o) BadLengths) _ passed) in
       let offering = first_accepts done.answer _ worked in
       (opening, offering, both_accept _ _ agree (both_accept _ _ (state_sound (last_shown t m mode opening xs offering).sound) (second_accepts done.answer _ worked)))

@@ -17,10 +17,10 @@ use borrow.Author.Tests.{eq-eqb, eqb-true, eqb-false, ne_eqb}
 use lib.Dec.{eqb, leb}
 use lib.Ieee.{Float, nan}
 use lib.ListN.{length, get_or}
-use Rattle.scope.specs.declared.ReadOut.{ReadOut}
+use Rattle.std.specs.Prelude.{Ok}
 use Rattle.scope.specs.declared.ReadOut.TheVariants.{Nothing, Closed, Outline}
 use Rattle.scope.specs.Lists.{keep, head_or}
-use Rattle.scope.specs.Answers.{kind_of}
+use Rattle.scope.specs.Answers.{kind_of, Answer}
 use Rattle.scope.specs.Table.{Table, row_count}
 use Rattle.scope.specs.Afresh.{successor, standing_rows, ring, rings}
 use Rattle.scope.specs.Memory.{Output}
@@ -89,10 +89,10 @@ drawn_output t cs o = record {
 }
 
 -- Nothing (no cells), closed (cells, but no edge stands), or outline with polygon count, ring count and the first outer area.
-unfoldable pub drawn_answer : Table → List ℕ → ReadOut
+unfoldable pub drawn_answer : Table → List ℕ → Answer
 drawn_answer t cs =
-    let some = Outline (length (polygons t cs)) (length (rings t cs)) (area_from t cs (head_or 0 (drawn t cs))) in
-    cond (eqb (length cs) 0) Nothing (cond (eqb (length (standing_rows t cs)) 0) Closed some)
+    let some = Ok (Outline (length (polygons t cs)) (length (rings t cs)) (area_from t cs (head_or 0 (drawn t cs)))) in
+    cond (eqb (length cs) 0) (Ok Nothing) (cond (eqb (length (standing_rows t cs)) 0) (Ok Closed) some)
 
 -- ---- the rings drawn
 
@@ -104,10 +104,10 @@ drawn_rings_lem t cs = perm_map (ring_from t cs) (sort_perm (drawn_before t cs) 
 
 -- NOTHING exactly where there is no cell; CLOSED exactly where there are cells and no row stands
 module _ (t : Table) (cs : List ℕ) where
-  abbrev answer : Bool → Bool → ReadOut
-  answer a b = cond a Nothing (cond b Closed (Outline (length (polygons t cs)) (length (rings t cs)) (area_from t cs (head_or 0 (drawn t cs)))))
+  abbrev answer : Bool → Bool → Answer
+  answer a b = cond a (Ok Nothing) (cond b (Ok Closed) (Ok (Outline (length (polygons t cs)) (length (rings t cs)) (area_from t cs (head_or 0 (drawn t cs))))))
 
-  pub nothing_exactly : (drawn_answer t cs ≡ Nothing) ↔ (length cs ≡ 0)
+  pub nothing_exactly : (drawn_answer t cs ≡ (Ok Nothing)) ↔ (length cs ≡ 0)
   unfolding drawn_answer kind_of
   nothing_exactly = (λ e. eqb-true (length cs) 0 (go (eqb (length cs) 0) (eqb (length (standing_rows t cs)) 0) (ap kind_of e)), λ z. rw (eq-eqb (length cs) 0 z))
     where
@@ -116,7 +116,7 @@ module _ (t : Table) (cs : List ℕ) where
       go false true e = absurd (omega arith)
       go false false e = absurd (omega arith)
 
-  pub closed_exactly : (drawn_answer t cs ≡ Closed) ↔ ((length cs ≢ 0) × (length (standing_rows t cs) ≡ 0))
+  pub closed_exactly : (drawn_answer t cs ≡ (Ok Closed)) ↔ ((length cs ≢ 0) × (length (standing_rows t cs) ≡ 0))
   unfolding drawn_answer kind_of
   closed_exactly = (
     λ e. let z = go (eqb (length cs) 0) (eqb (length (standing_rows t cs)) 0) (ap kind_of e) in (eqb-false (length cs) 0 z.0, eqb-true (length (standing_rows t cs)) 0 z.1),

@@ -13,9 +13,9 @@ use mathlib.Core.List.{List, [], ◌∷◌, ◌++◌, map, Memᴰ}
 use native.Mathlib.Omega.{arith}
 use lib.ListN.{length, length-append, length-map}
 use borrow.Author.Tests.{le-leb}
-use Rattle.scope.specs.declared.Verdict.{Verdict}
-use Rattle.scope.specs.declared.Verdict.TheVariants.{Accepted, Refused}
-use Rattle.scope.specs.Answers.{require, ◌▷◌}
+use Rattle.scope.specs.declared.Refusal.TheVariants.{BadLengths}
+use Rattle.std.specs.Prelude.{Err, Ok}
+use Rattle.scope.specs.Answers.{require, ◌▷◌, Verdict}
 use Rattle.scope.specs.Table.{Table, row_count, reverse_of}
 use Rattle.scope.specs.Memory.{Memory, Output, has_slot, opened, lengths_fit, mode_fits, outputs_agree}
 use Rattle.scope.specs.Afresh.{ring}
@@ -114,9 +114,9 @@ module _ (v : View) (R : Permutes (length v.row_slot) (λ r. stands_at v.row_slo
 -- ---- the calls
 
 -- a test that holds where the one before it accepts refuses nothing
-extra : (v : Verdict) (b : Bool) → (v ≡ Accepted → b ≡ true) → (v ▷ require b 10 0) ≡ v
-extra Accepted b h = require_accepts b 10 0 (h refl)
-extra (Refused number index) b h = refl
+extra : (v : Verdict) (b : Bool) → (v ≡ Ok tt → b ≡ true) → (v ▷ require b BadLengths) ≡ v
+extra (Ok _) b h = require_accepts b BadLengths (h refl)
+extra (Err why) b h = refl
 
 module _ (t : Table) (o : Output) (records : row_count t ≤ 2 * length o.start) (rows : row_count t ≤ 2 * length o.edges) where
   pub outputs_enough : {m : Memory} → Sound t m → output_fits (view t m) o ≡ true
@@ -133,21 +133,21 @@ module _ (t : Table) (o : Output) (records : row_count t ≤ 2 * length o.start)
       let b : length (edge_rows v (ordered v)) ≤ length o.edges = omega arith in
       and_both _ _ (le-leb _ _ a) (le-leb _ _ b)
 
-  pub read_enough : (m : Memory) → read_verdict t m o ≡ (require (outputs_agree o) 10 0 ▷ state_verdict t m)
+  pub read_enough : (m : Memory) → read_verdict t m o ≡ (require (outputs_agree o) BadLengths ▷ state_verdict t m)
   unfolding read_verdict
-  read_enough m = ap (λ (w : Verdict). require (outputs_agree o) 10 0 ▷ w) (extra (state_verdict t m) (output_fits (view t m) o) (λ e. outputs_enough (sound_state t m e)))
+  read_enough m = ap (λ (w : Verdict). require (outputs_agree o) BadLengths ▷ w) (extra (state_verdict t m) (output_fits (view t m) o) (λ e. outputs_enough (sound_state t m e)))
 
   module _ (m : Memory) (mode : ℕ) (cs : List ℕ) where
-    opened_first : dissolve_verdict t m mode cs o ≡ Accepted → open_verdict t m mode ≡ Accepted
+    opened_first : dissolve_verdict t m mode cs o ≡ Ok tt → open_verdict t m mode ≡ Ok tt
     unfolding dissolve_verdict
-    opened_first e = first_accepts _ _ (second_accepts (require (outputs_agree o) 10 0) _ e)
+    opened_first e = first_accepts _ _ (second_accepts (require (outputs_agree o) BadLengths) _ e)
 
-    last_sound : open_verdict t m mode ≡ Accepted → (offering_all t (opened mode m) cs).answer ≡ Accepted → Sound t (offering_all t (opened mode m) cs).left
+    last_sound : open_verdict t m mode ≡ Ok tt → (offering_all t (opened mode m) cs).answer ≡ Ok tt → Sound t (offering_all t (opened mode m) cs).left
     unfolding open_verdict
     last_sound e a =
-        let lengths = lengths_good t m (and_left (lengths_fit t m) (mode_fits mode) (require_holds _ 10 0 (first_accepts _ _ e))) in
-        (all_shown t (opened mode m) [] cs (opened_shown t m mode (second_accepts (require (lengths_fit t m && mode_fits mode) 10 0) _ e) lengths) a).sound
+        let lengths = lengths_good t m (and_left (lengths_fit t m) (mode_fits mode) (require_holds _ BadLengths (first_accepts _ _ e))) in
+        (all_shown t (opened mode m) [] cs (opened_shown t m mode (second_accepts (require (lengths_fit t m && mode_fits mode) BadLengths) _ e) lengths) a).sound
 
-    pub dissolve_enough : dissolve_verdict t m mode cs o ≡ Accepted
-        → ((offering_all t (opened mode m) cs).answer ▷ require (output_fits (view t (offering_all t (opened mode m) cs).left) o) 10 0) ≡ (offering_all t (opened mode m) cs).answer
+    pub dissolve_enough : dissolve_verdict t m mode cs o ≡ Ok tt
+        → ((offering_all t (opened mode m) cs).answer ▷ require (output_fits (view t (offering_all t (opened mode m) cs).left) o) BadLengths) ≡ (offering_all t (opened mode m) cs).answer
     dissolve_enough e = extra (offering_all t (opened mode m) cs).answer _ (λ a. outputs_enough (last_sound (opened_first e) a))

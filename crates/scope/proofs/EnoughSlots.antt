@@ -11,7 +11,8 @@ use lib.Dec.{ltb}
 use lib.ListN.{length, length-append, get_or-append}
 use lib.Seq.{get_or-append_seam}
 use borrow.Author.Tests.{ltb-true, le-leb}
-use Rattle.scope.specs.declared.Verdict.TheVariants.{Accepted}
+use Rattle.scope.specs.declared.Refusal.TheVariants.{EdgeNotInTable, EdgeTwice, PoolFull}
+use Rattle.std.specs.Prelude.{Ok}
 use Rattle.scope.specs.Lists.{at, below, member}
 use Rattle.scope.specs.Answers.{require, ◌▷◌}
 use Rattle.scope.specs.Cells.{owner_of}
@@ -29,7 +30,7 @@ use Rattle.scope.proofs.Owning.{Owned, owned_test, one_cell, outline_owned}
 use Rattle.scope.proofs.Linked.{true_used}
 use Rattle.scope.proofs.Sound.{Sound, held_count, held_at}
 
-module _ {t : Table} {m : Memory} (S : Sound t m) (x : ℕ) (cell : cell_verdict (kept_mode m) (target_of t) (places m) (held_cells m) x ≡ Accepted) where
+module _ {t : Table} {m : Memory} (S : Sound t m) (x : ℕ) (cell : cell_verdict (kept_mode m) (target_of t) (places m) (held_cells m) x ≡ Ok tt) where
   abbrev more : List ℕ
   more = held_cells m ++ (x ∷ [])
 
@@ -84,12 +85,12 @@ module _ {t : Table} {m : Memory} (S : Sound t m) (x : ℕ) (cell : cell_verdict
       let rows = count_both (λ a. member a o) (row_count t) in let pool = count_both (is_used m) (slots m) in
       omega arith
 
-  pub slots_enough : row_count t ≤ slots m → outline_verdict t m o ≡ (require (all_in_table t o) 5 (held m) ▷ require (not (names_twice o)) 6 (held m))
+  pub slots_enough : row_count t ≤ slots m → outline_verdict t m o ≡ (require (all_in_table t o) (EdgeNotInTable (held m)) ▷ require (not (names_twice o)) (EdgeTwice (held m)))
   unfolding outline_verdict
   slots_enough h = go (all_in_table t o) (names_twice o) (enough_slots m o) (λ all once. le-leb _ _ (room h all once))
     where
       go : (a b c : Bool) → (a ≡ true → b ≡ false → c ≡ true)
-          → (require a 5 (held m) ▷ require (not b) 6 (held m) ▷ require c 7 (held m)) ≡ (require a 5 (held m) ▷ require (not b) 6 (held m))
+          → (require a (EdgeNotInTable (held m)) ▷ require (not b) (EdgeTwice (held m)) ▷ require c (PoolFull (held m))) ≡ (require a (EdgeNotInTable (held m)) ▷ require (not b) (EdgeTwice (held m)))
       go false b c k = refl
       go true true c k = refl
       go true false c k = rw (k refl refl)

@@ -3,6 +3,7 @@
 -- Tests, scans and lists
 pub mod Tests
 pub mod Scan
+pub mod Iterated
 pub mod Members
 pub mod Pigeonhole
 pub mod Below

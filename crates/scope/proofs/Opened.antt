@@ -10,7 +10,7 @@ use Prim.Native.Nat.{ℕ, ◌≤◌, ◌<◌}
 use native.Mathlib.Omega.{arith}
 use lib.Dec.{eqb}
 use lib.ListN.{length, length-replicate, get_or-replicate, get_or-eq_default}
-use Rattle.scope.specs.declared.Verdict.TheVariants.{Accepted}
+use Rattle.std.specs.Prelude.{Ok}
 use Rattle.scope.specs.Lists.{at, total, zeros}
 use Rattle.scope.specs.Table.{Table, target_of, table_verdict}
 use Rattle.scope.specs.CellLists.{list_verdict}
@@ -36,7 +36,7 @@ kept_low : (b : Bool) → cond b 1 0 ≤ 1
 kept_low true = omega arith
 kept_low false = omega arith
 
-no_cells : (mode target : ℕ) → list_verdict mode target 0 [] ≡ Accepted
+no_cells : (mode target : ℕ) → list_verdict mode target 0 [] ≡ Ok tt
 no_cells mode target = list_accepted mode target 0 [] (record {
   valid = λ i h. absurd (omega arith);
   once = λ i j h. absurd (omega arith);
@@ -85,7 +85,7 @@ module _ (t : Table) (m : Memory) (mode : ℕ) where
     ranks_fit = omega arith;
   }
 
-  pub opened_sound : table_verdict t ≡ Accepted → Lengths t m → Sound t (opened mode m)
+  pub opened_sound : table_verdict t ≡ Ok tt → Lengths t m → Sound t (opened mode m)
   opened_sound e l = record { table = e; lengths = opened_lengths l; rules = rules_opened }
 
   no_slot : (a : ℕ) → has_slot (opened mode m) a ≡ true → ⊥

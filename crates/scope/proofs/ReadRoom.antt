@@ -10,12 +10,11 @@ use native.Mathlib.Omega.{arith}
 use lib.Dec.{eqb, leb}
 use lib.ListN.{length, length-append}
 use borrow.Author.Tests.{leb-true}
-use Rattle.scope.specs.declared.Verdict.{Verdict}
-use Rattle.scope.specs.declared.Verdict.TheVariants.{Accepted, Refused}
-use Rattle.scope.specs.declared.ReadOut.{ReadOut}
-use Rattle.scope.specs.declared.ReadOut.TheVariants as readout
+use Rattle.scope.specs.declared.Refusal.TheVariants.{BadLengths}
+use Rattle.std.specs.Prelude.{Err, Ok}
+use Rattle.scope.specs.declared.ReadOut.TheVariants.{Nothing, Closed, Outline}
 use Rattle.scope.specs.Lists.{at, total, head_or}
-use Rattle.scope.specs.Answers.{rings_of, require, ◌▷◌}
+use Rattle.scope.specs.Answers.{rings_of, require, ◌▷◌, Answer, Verdict}
 use Rattle.scope.specs.Table.{Table}
 use Rattle.scope.specs.Memory.{Memory, Output, held, opened, outputs_agree}
 use Rattle.scope.specs.Order.{View, view, ring_at, lowest_rows, ring_order, ordered, sizes, edge_rows, polygon_count, area_at, read_answer}
@@ -66,8 +65,8 @@ module _ (t : Table) (m : Memory) (o : Output) where
       v : View
       v = view t m
 
-      answer : Bool → Bool → ReadOut
-      answer a b = cond a readout.Nothing (cond b readout.Closed (readout.Outline (polygon_count v) (length (lowest_rows v)) (area_at v (head_or 0 (ordered v)))))
+      answer : Bool → Bool → Answer
+      answer a b = cond a (Ok Nothing) (cond b (Ok Closed) (Ok (Outline (polygon_count v) (length (lowest_rows v)) (area_at v (head_or 0 (ordered v))))))
 
       records : length (ordered v) ≤ length o.start
       records = leb-true _ _ (and_left _ _ e)
@@ -84,21 +83,21 @@ module _ (t : Table) (m : Memory) (o : Output) where
       }
 
 -- refused, nothing is read out
-read_as : (w : Verdict) (done : Reading) (m : Memory) (o : Output) → (w ≡ Accepted → RoomIn o done) → RoomIn o (reading w done m o)
+read_as : (w : Verdict) (done : Reading) (m : Memory) (o : Output) → (w ≡ Ok tt → RoomIn o done) → RoomIn o (reading w done m o)
 unfolding edge_count rings_of total
-read_as Accepted done m o f = f refl
-read_as (Refused number index) done m o f = record { rings = omega arith; edges = omega arith }
+read_as (Ok _) done m o f = f refl
+read_as (Err why) done m o f = record { rings = omega arith; edges = omega arith }
 
 pub read_room : (t : Table) (m : Memory) (o : Output) → RoomIn o (reading_out t m o)
 unfolding reading_out read_verdict
 read_room t m o = read_as (read_verdict t m o) (read_from t m o) m o (λ e.
-    fits_room t m o (require_holds (output_fits (view t m) o) 10 0 (second_accepts (state_verdict t m) _ (second_accepts (require (outputs_agree o) 10 0) _ e))))
+    fits_room t m o (require_holds (output_fits (view t m) o) BadLengths (second_accepts (state_verdict t m) _ (second_accepts (require (outputs_agree o) BadLengths) _ e))))
 
 pub dissolve_room : (t : Table) (m : Memory) (mode : ℕ) (cs : List ℕ) (o : Output) → RoomIn o (dissolving t m mode cs o)
 unfolding dissolving working
 dissolve_room t m mode cs o =
     let last = offering_all t (opened mode m) cs in
-    let fits = require (output_fits (view t last.left) o) 10 0 in
+    let fits = require (output_fits (view t last.left) o) BadLengths in
     read_as (dissolve_verdict t m mode cs o) (working t m mode cs o) m o (λ _.
     read_as (last.answer ▷ fits) (read_from t last.left o) (opened mode m) o (λ e.
-    fits_room t last.left o (require_holds (output_fits (view t last.left) o) 10 0 (second_accepts last.answer fits e))))
+    fits_room t last.left o (require_holds (output_fits (view t last.left) o) BadLengths (second_accepts last.answer fits e))))

@@ -9,9 +9,8 @@ use mathlib.Core.List.Memᴰ
 use mathlib.Core.List.{List, [], ◌∷◌, ◌++◌, Memᴰ}
 use Prim.Native.Nat.{ℕ}
 use lib.Dec.{eqb}
-use Rattle.scope.specs.declared.Verdict.{Verdict}
-use Rattle.scope.specs.declared.Verdict.TheVariants.{Accepted}
-use Rattle.scope.specs.Answers.{if_accepted}
+use Rattle.std.specs.Prelude.{Ok}
+use Rattle.scope.specs.Answers.{if_accepted, Verdict}
 use Rattle.scope.specs.Table.{Table, row_count, reverse_of, table_verdict, outline_rows}
 use Rattle.scope.specs.Standing.{outlines}
 use Rattle.scope.specs.Afresh.{is_standing, successor, ring, none_below, starts_ring, rings}
@@ -31,7 +30,7 @@ use Rattle.scope.proofs.TakingCells.{Shown}
 use Rattle.scope.proofs.ShownAfresh.{shown_stands, shown_ring}
 use Rattle.scope.proofs.Run.{offer_shown, ran, ran_shown}
 
-module _ {t : Table} {m : Memory} {cs : List ℕ} (S : Shown t m cs) (x : ℕ) (e : (offering t m x).answer ≡ Accepted) (l : List ℕ) (i : Memᴰ l (rings t cs))
+module _ {t : Table} {m : Memory} {cs : List ℕ} (S : Shown t m cs) (x : ℕ) (e : (offering t m x).answer ≡ Ok tt) (l : List ℕ) (i : Memᴰ l (rings t cs))
     (untouched : (b : ℕ) → Memᴰ b l → Memᴰ (reverse_of t b) (outline_rows t x) → ⊥) where
   -- the ring's lowest row
   start : (r : ℕ) × Memᴰ r (starts t cs) × (ring (row_count t) (successor t cs) r ≡ l)
@@ -83,8 +82,8 @@ module _ {t : Table} {m : Memory} {cs : List ℕ} (S : Shown t m cs) (x : ℕ) (
 
 -- ---- after any run of calls
 
-module _ (t : Table) (m : Memory) (mode : ℕ) (calls : List Call) (checked : table_verdict t ≡ Accepted) (fits : lengths_fit t m ≡ true)
-    (x : ℕ) (e : (offering t (ran t mode m calls).memory x).answer ≡ Accepted) (l : List ℕ) (i : Memᴰ l (rings t (ran t mode m calls).cells))
+module _ (t : Table) (m : Memory) (mode : ℕ) (calls : List Call) (checked : table_verdict t ≡ Ok tt) (fits : lengths_fit t m ≡ true)
+    (x : ℕ) (e : (offering t (ran t mode m calls).memory x).answer ≡ Ok tt) (l : List ℕ) (i : Memᴰ l (rings t (ran t mode m calls).cells))
     (untouched : (b : ℕ) → Memᴰ b l → Memᴰ (reverse_of t b) (outline_rows t x) → ⊥) where
   pub run_slots : (b : ℕ) → Memᴰ b l → SlotLeft (ran t mode m calls).memory (offering t (ran t mode m calls).memory x).left b
   run_slots = shown_slots (ran_shown t m mode calls checked fits) x e l i untouched

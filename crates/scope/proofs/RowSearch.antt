@@ -11,7 +11,7 @@ use mathlib.Core.List.{List}
 use native.Mathlib.Omega.{arith}
 use lib.ListN.{length}
 use borrow.Author.Tests.{eq-eqb, ne_eqb, eqb-true, lt-ltb, le-ltb, not-false}
-use Rattle.scope.specs.declared.Found.TheVariants.{At, Absent}
+use Rattle.std.specs.Prelude.{Some, None}
 use Rattle.scope.specs.Lists.{at}
 use Rattle.scope.specs.Table.{is_other, row_of, find_row}
 use Rattle.scope.proofs.Scan.{Lowest, first_bad_lowest, first_bad_is}
@@ -45,10 +45,10 @@ module _ (es : List ℕ) (e : ℕ) where
   pub row_is : Ascending es → (a : ℕ) → a < length es → at es a ≡ e → a ≡ row_of es e
   row_is order a l q = row_first a l q (λ k h z. let w = order.order k a h l in omega arith)
 
-  pub found_at : (r : ℕ) → r ≡ row_of es e → r < length es → At r ≡ find_row es e
+  pub found_at : (r : ℕ) → r ≡ row_of es e → r < length es → Some r ≡ find_row es e
   unfolding find_row
   found_at r q l = rw (← q, lt-ltb r (length es) l)
 
-  pub found_absent : length es ≡ row_of es e → Absent ≡ find_row es e
+  pub found_absent : length es ≡ row_of es e → None ≡ find_row es e
   unfolding find_row
   found_absent q = rw (← q, le-ltb (length es) (length es) (omega arith))

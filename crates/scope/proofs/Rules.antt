@@ -10,7 +10,7 @@ use native.Mathlib.Omega.{arith}
 use lib.Dec.{eqb, ltb}
 use lib.ListN.{length}
 use borrow.Author.Tests.{eq-eqb, ne_eqb, eqb-true, leb-true, ltb-true}
-use Rattle.scope.specs.declared.Verdict.TheVariants.{Accepted}
+use Rattle.std.specs.Prelude.{Ok}
 use Rattle.scope.specs.Lists.{at, total}
 use Rattle.scope.specs.Table.{Table, row_count, reverse_of, target_of}
 use Rattle.scope.specs.CellLists.{list_verdict}
@@ -50,7 +50,7 @@ pub record SlotFree (m : Memory) (s : ℕ) : Type 0 where
 pub record RulesGood (t : Table) (m : Memory) : Type 0 where
   pub mode_fits : kept_mode m ≤ 1
   pub count_fits : held m ≤ places m
-  pub cells_pass : list_verdict (kept_mode m) (target_of t) (held m) (held_cells m) ≡ Accepted
+  pub cells_pass : list_verdict (kept_mode m) (target_of t) (held m) (held_cells m) ≡ Ok tt
   pub row_held : (r : ℕ) → r < length m.row_slot → (at m.row_slot r ≡ 0 → ⊥) → RowHeld m r
   pub slot_used : (s : ℕ) → s < slots m → (at m.slot_row s ≡ 0 → ⊥) → SlotUsed t m s
   pub slot_free : (s : ℕ) → s < slots m → at m.slot_row s ≡ 0 → SlotFree m s

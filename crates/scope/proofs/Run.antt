@@ -15,12 +15,12 @@ use Prim.Native.Nat.{ℕ}
 use native.Mathlib.Omega.{arith}
 use lib.Dec.{eqb}
 use lib.ListN.{length}
-use Rattle.scope.specs.declared.Verdict.{Verdict}
-use Rattle.scope.specs.declared.Verdict.TheVariants as verdict
-use Rattle.scope.specs.declared.ReadOut.{ReadOut}
-use Rattle.scope.specs.declared.ReadOut.TheVariants as readout
+use Rattle.scope.specs.declared.Refusal.{Refusal}
+use Rattle.scope.specs.declared.Refusal.TheVariants.{BadLengths}
+use Rattle.std.specs.Prelude.{Err, Ok}
+use Rattle.scope.specs.declared.ReadOut.TheVariants.{Nothing, Closed, Outline}
 use Rattle.scope.specs.Lists.{head_or}
-use Rattle.scope.specs.Answers.{require, ◌▷◌, if_accepted, verdict_of}
+use Rattle.scope.specs.Answers.{require, ◌▷◌, if_accepted, verdict_of, Answer, Verdict}
 use Rattle.scope.specs.Table.{Table, table_verdict}
 use Rattle.scope.specs.Memory.{Memory, Output, opened, lengths_fit}
 use Rattle.scope.specs.Rules.{rules_kept}
@@ -36,7 +36,7 @@ use Rattle.scope.proofs.Opened.{opened_sound, opened_shows}
 use Rattle.scope.proofs.TakingCells.{Shown}
 use Rattle.scope.proofs.TakingShows.{taken_shown}
 
-pub opened_shown : (t : Table) (m : Memory) (mode : ℕ) → table_verdict t ≡ verdict.Accepted → Lengths t m → Shown t (opened mode m) []
+pub opened_shown : (t : Table) (m : Memory) (mode : ℕ) → table_verdict t ≡ Ok tt → Lengths t m → Shown t (opened mode m) []
 opened_shown t m mode e l = record {
   sound = opened_sound t m mode e l;
   proper = record {
@@ -49,15 +49,15 @@ opened_shown t m mode e l = record {
   shows = opened_shows t m mode;
 }
 
-pub refused_not : {number index : ℕ} {A : Type 0} → verdict.Refused number index ≡ verdict.Accepted → A
+pub refused_not : {why : Refusal} {A : Type 0} → ◌≡◌ {A = Verdict} (Err why) (Ok tt) → A
 refused_not e = let z : ◌≡◌ {A = ℕ} 0 1 = cc in absurd (omega arith)
 
 module _ (t : Table) where
   -- a call that is carried out or refused
-  decided : (v : Verdict) {m₁ m₂ : Memory} {cs₁ cs₂ : List ℕ} → (v ≡ verdict.Accepted → Shown t m₁ cs₁) → Shown t m₂ cs₂
+  decided : (v : Verdict) {m₁ m₂ : Memory} {cs₁ cs₂ : List ℕ} → (v ≡ Ok tt → Shown t m₁ cs₁) → Shown t m₂ cs₂
       → Shown t (if_accepted v m₁ m₂) (if_accepted v cs₁ cs₂)
-  decided verdict.Accepted done kept = done refl
-  decided (verdict.Refused number index) done kept = kept
+  decided (Ok _) done kept = done refl
+  decided (Err why) done kept = kept
 
   -- ---- offers
 
@@ -66,23 +66,23 @@ module _ (t : Table) where
   offer_shown m cs x S = decided (offer_verdict t m x) (λ e. taken_shown S (offered t m x e)) S
 
   -- offers in a row that are all accepted: the first, and the rest from where it leaves
-  pub all_accept : (m : Memory) (x : ℕ) (xs : List ℕ) → (offering_all t m (x ∷ xs)).answer ≡ verdict.Accepted
-      → (offer_verdict t m x ≡ verdict.Accepted) × ((offering_all t (taking t m x) xs).answer ≡ verdict.Accepted)
+  pub all_accept : (m : Memory) (x : ℕ) (xs : List ℕ) → (offering_all t m (x ∷ xs)).answer ≡ Ok tt
+      → (offer_verdict t m x ≡ Ok tt) × ((offering_all t (taking t m x) xs).answer ≡ Ok tt)
       × ((offering_all t m (x ∷ xs)).left ≡ (offering_all t (taking t m x) xs).left)
   unfolding offering_all offering
   all_accept m x xs e = go (offer_verdict t m x) e
     where
-      go : (v : Verdict) → (if_accepted v (offering_all t (if_accepted v (taking t m x) m) xs) (outcome v (taking t m x) m)).answer ≡ verdict.Accepted
-          → (v ≡ verdict.Accepted) × ((offering_all t (taking t m x) xs).answer ≡ verdict.Accepted)
+      go : (v : Verdict) → (if_accepted v (offering_all t (if_accepted v (taking t m x) m) xs) (outcome v (taking t m x) m)).answer ≡ Ok tt
+          → (v ≡ Ok tt) × ((offering_all t (taking t m x) xs).answer ≡ Ok tt)
           × ((if_accepted v (offering_all t (if_accepted v (taking t m x) m) xs) (outcome v (taking t m x) m)).left ≡ (offering_all t (taking t m x) xs).left)
-      go verdict.Accepted e = (refl, e, refl)
-      go (verdict.Refused number index) e = refused_not e
+      go (Ok _) e = (refl, e, refl)
+      go (Err why) e = refused_not e
 
   pub all_none : (m : Memory) → (offering_all t m []).left ≡ m
   unfolding offering_all
   all_none m = refl
 
-  pub all_shown : (m : Memory) (cs xs : List ℕ) → Shown t m cs → (offering_all t m xs).answer ≡ verdict.Accepted → Shown t (offering_all t m xs).left (cs ++ xs)
+  pub all_shown : (m : Memory) (cs xs : List ℕ) → Shown t m cs → (offering_all t m xs).answer ≡ Ok tt → Shown t (offering_all t m xs).left (cs ++ xs)
   all_shown m cs [] S e = rw (all_none m, append-nil cs) S
   all_shown m cs (x ∷ xs) S e =
       let q = all_accept m x xs e in
@@ -95,15 +95,15 @@ module _ (t : Table) where
   read_leaves m o = go (read_verdict t m o)
     where
       go : (v : Verdict) → (reading v (read_from t m o) m o).left ≡ m
-      go verdict.Accepted = refl
-      go (verdict.Refused number index) = refl
+      go (Ok _) = refl
+      go (Err why) = refl
 
   -- what is read out is no refusal
-  pub read_accepts : (v : View) → verdict_of (read_answer v) ≡ verdict.Accepted
+  pub read_accepts : (v : View) → verdict_of (read_answer v) ≡ Ok tt
   unfolding verdict_of read_answer
-  read_accepts v = go (eqb v.held 0) (eqb (length (lowest_rows v)) 0) (readout.Outline (polygon_count v) (length (lowest_rows v)) (area_at v (head_or 0 (ordered v)))) refl
+  read_accepts v = go (eqb v.held 0) (eqb (length (lowest_rows v)) 0) (Ok (Outline (polygon_count v) (length (lowest_rows v)) (area_at v (head_or 0 (ordered v))))) refl
     where
-      go : (b c : Bool) (some : ReadOut) → verdict_of some ≡ verdict.Accepted → verdict_of (cond b readout.Nothing (cond c readout.Closed some)) ≡ verdict.Accepted
+      go : (b c : Bool) (some : Answer) → verdict_of some ≡ Ok tt → verdict_of (cond b (Ok Nothing) (cond c (Ok Closed) some)) ≡ Ok tt
       go true c some e = refl
       go false true some e = refl
       go false false some e = e
@@ -112,15 +112,15 @@ module _ (t : Table) where
   pub work_shown : (m : Memory) (mode : ℕ) (xs : List ℕ) (o : Output) → Shown t (opened mode m) []
       → Shown t (working t m mode xs o).left (if_accepted (verdict_of (working t m mode xs o).answer) xs [])
   unfolding working
-  work_shown m mode xs o S = go (last.answer ▷ require (output_fits (view t last.left) o) 10 0) refl
+  work_shown m mode xs o S = go (last.answer ▷ require (output_fits (view t last.left) o) BadLengths) refl
     where
       last : Outcome
       last = offering_all t (opened mode m) xs
 
-      go : (v : Verdict) → (last.answer ▷ require (output_fits (view t last.left) o) 10 0) ≡ v
+      go : (v : Verdict) → (last.answer ▷ require (output_fits (view t last.left) o) BadLengths) ≡ v
           → Shown t (reading v (read_from t last.left o) (opened mode m) o).left (if_accepted (verdict_of (reading v (read_from t last.left o) (opened mode m) o).answer) xs [])
-      go verdict.Accepted e = rw (read_accepts (view t last.left)) (all_shown (opened mode m) [] xs S (first_accepts _ _ e))
-      go (verdict.Refused number index) e = unfold verdict_of in S
+      go (Ok _) e = rw (read_accepts (view t last.left)) (all_shown (opened mode m) [] xs S (first_accepts _ _ e))
+      go (Err why) e = unfold verdict_of in S
 
   pub call_shown : (call : Call) (m : Memory) (cs : List ℕ) → Shown t m cs → Shown t (leaves t call m) (accepted t call m cs)
   unfolding leaves accepted
@@ -130,8 +130,8 @@ module _ (t : Table) where
   call_shown (dissolves mode xs o) m cs S = unfold dissolving in go (dissolve_verdict t m mode xs o)
     where
       go : (v : Verdict) → Shown t (reading v (working t m mode xs o) m o).left (if_accepted v (if_accepted (verdict_of (reading v (working t m mode xs o) m o).answer) xs []) cs)
-      go verdict.Accepted = work_shown m mode xs o (opened_shown t m mode S.sound.table S.sound.lengths)
-      go (verdict.Refused number index) = S
+      go (Ok _) = work_shown m mode xs o (opened_shown t m mode S.sound.table S.sound.lengths)
+      go (Err why) = S
 
   pub run_shown : (calls : List Call) (h : History) → Shown t h.memory h.cells → Shown t (run t calls h).memory (run t calls h).cells
   unfolding run
@@ -142,7 +142,7 @@ module _ (t : Table) where
 abbrev pub ran : Table → ℕ → Memory → List Call → History
 ran t mode m calls = run t calls (record { memory = opened mode m; cells = [] })
 
-module _ (t : Table) (m : Memory) (mode : ℕ) (calls : List Call) (checked : table_verdict t ≡ verdict.Accepted) (fits : lengths_fit t m ≡ true) where
+module _ (t : Table) (m : Memory) (mode : ℕ) (calls : List Call) (checked : table_verdict t ≡ Ok tt) (fits : lengths_fit t m ≡ true) where
   pub ran_shown : Shown t (ran t mode m calls).memory (ran t mode m calls).cells
   ran_shown = run_shown t calls (record { memory = opened mode m; cells = [] }) (opened_shown t m mode checked (lengths_good t m fits))
 

@@ -13,6 +13,7 @@ use mathlib.Core.List.{List, map}
 use Prim.Native.Nat.{ℕ, ◌+◌}
 use lib.Dec.{eqb}
 use lib.ListN.{length}
+use Rattle.std.specs.Prelude.{Ok}
 use Rattle.scope.specs.Lists.{at, below, first_bad}
 use Rattle.scope.specs.Table.{Table, row_count, reverse_of, table_verdict}
 use Rattle.scope.specs.Standing.{outlines}
@@ -38,7 +39,6 @@ use Rattle.scope.proofs.TakingCells.{Shown}
 use Rattle.scope.proofs.TakingShows.{shown_count, shown_holds}
 use Rattle.scope.proofs.Sorting.{All}
 use Rattle.scope.proofs.Untouched.{rows_permute}
-use Rattle.scope.specs.declared.Verdict.TheVariants.{Accepted}
 use Rattle.scope.specs.Demands.{Call}
 use Rattle.scope.proofs.Run.{ran, ran_shown}
 use Rattle.scope.proofs.ViewsAlike.{all_mem, map_cong}
@@ -101,7 +101,7 @@ module _ {t : Table} {m : Memory} {cs : List ℕ} (S : Shown t m cs) where
 
 -- ---- after any run of calls
 
-module _ (t : Table) (m : Memory) (mode : ℕ) (calls : List Call) (checked : table_verdict t ≡ Accepted) (fits : lengths_fit t m ≡ true) where
+module _ (t : Table) (m : Memory) (mode : ℕ) (calls : List Call) (checked : table_verdict t ≡ Ok tt) (fits : lengths_fit t m ≡ true) where
   pub run_rings : map (ring_at (view t (ran t mode m calls).memory)) (lowest_rows (view t (ran t mode m calls).memory)) ≡ rings t (ran t mode m calls).cells
   run_rings = shown_rings (ran_shown t m mode calls checked fits)
 

@@ -9,7 +9,8 @@ use mathlib.Core.Bool.{Bool, true, false, cond}
 use mathlib.Core.List.{List, [], ◌∷◌, ◌++◌, map, map-map}
 use lib.Dec.{eqb}
 use lib.ListN.{length}
-use Rattle.scope.specs.declared.ReadOut.{ReadOut}
+use Rattle.scope.specs.Answers.{Answer}
+use Rattle.std.specs.Prelude.{Ok}
 use Rattle.scope.specs.declared.ReadOut.TheVariants.{Nothing, Closed, Outline}
 use Rattle.scope.specs.Lists.{keep, head_or}
 use Rattle.scope.specs.Table.{Table}
@@ -146,14 +147,14 @@ module _ {t : Table} {m : Memory} {cs : List ℕ} (S : Shown t m cs) where
   unfolding read_answer drawn_answer
   shown_answer = go (eqb (length (lowest_rows v)) 0) refl ∙ (λ i. answer (eqb (shown_count S i) 0) (none i) there)
     where
-      answer : Bool → Bool → ReadOut → ReadOut
-      answer a b some = cond a Nothing (cond b Closed some)
+      answer : Bool → Bool → Answer → Answer
+      answer a b some = cond a (Ok Nothing) (cond b (Ok Closed) some)
 
-      here : ReadOut
-      here = Outline (polygon_count v) (length (lowest_rows v)) (area_at v (head_or 0 (ordered v)))
+      here : Answer
+      here = Ok (Outline (polygon_count v) (length (lowest_rows v)) (area_at v (head_or 0 (ordered v))))
 
-      there : ReadOut
-      there = Outline (length (polygons t cs)) (length (rings t cs)) (area_from t cs (head_or 0 (drawn t cs)))
+      there : Answer
+      there = Ok (Outline (length (polygons t cs)) (length (rings t cs)) (area_from t cs (head_or 0 (drawn t cs))))
 
       none : eqb (length (lowest_rows v)) 0 ≡ eqb (length (standing_rows t cs)) 0
       none = ap (λ (n : ℕ). eqb n 0) (shown_ring_count S) ∙ no_ring S.proper
@@ -161,4 +162,4 @@ module _ {t : Table} {m : Memory} {cs : List ℕ} (S : Shown t m cs) where
       go : (b : Bool) → eqb (length (lowest_rows v)) 0 ≡ b
           → answer (eqb (held m) 0) b here ≡ answer (eqb (held m) 0) b there
       go true e = refl
-      go false e = λ i. cond (eqb (held m) 0) Nothing (Outline (shown_polygons S i) (shown_ring_count S i) (first_area e i))
+      go false e = λ i. cond (eqb (held m) 0) (Ok Nothing) (Ok (Outline (shown_polygons S i) (shown_ring_count S i) (first_area e i)))

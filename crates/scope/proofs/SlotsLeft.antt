@@ -9,10 +9,9 @@ use mathlib.Core.Bool.{true, not}
 use mathlib.Core.List.{List, Memᴰ}
 use Prim.Native.Nat.{ℕ, zero, suc, ◌+◌, ◌-◌}
 use native.Mathlib.Omega.{arith}
-use Rattle.scope.specs.declared.Verdict.{Verdict}
-use Rattle.scope.specs.declared.Verdict.TheVariants.{Accepted}
+use Rattle.std.specs.Prelude.{Ok}
 use Rattle.scope.specs.Lists.{at}
-use Rattle.scope.specs.Answers.{if_accepted}
+use Rattle.scope.specs.Answers.{if_accepted, Verdict}
 use Rattle.scope.specs.Table.{Table, row_count, reverse_of, outline_rows}
 use Rattle.scope.specs.Standing.{here}
 use Rattle.scope.specs.Memory.{Memory, slots, slot_of, row_in, has_slot}
@@ -135,8 +134,8 @@ module _ {t : Table} {m : Memory} {x : ℕ} (O : Offered t m x) where
 
 -- ---- over the call
 
-module _ (t : Table) (m : Memory) (x : ℕ) (e : (offering t m x).answer ≡ Accepted) where
-  accepts : offer_verdict t m x ≡ Accepted
+module _ (t : Table) (m : Memory) (x : ℕ) (e : (offering t m x).answer ≡ Ok tt) where
+  accepts : offer_verdict t m x ≡ Ok tt
   accepts = unfold offering in e
 
   offer_leaves : taking t m x ≡ (offering t m x).left

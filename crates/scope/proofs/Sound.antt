@@ -13,7 +13,8 @@ use lib.Dec.{ltb}
 use lib.ListN.{length, length-append, get_or-append}
 use lib.Seq.{length-take-le, get_or-take, get_or-append_seam}
 use borrow.Author.Tests.{eq-eqb, ltb-true, leb-true, not-true}
-use Rattle.scope.specs.declared.Verdict.TheVariants.{Accepted}
+use Rattle.scope.specs.declared.Refusal.TheVariants.{EdgeNotInTable, EdgeTwice, PoolFull, BrokenState, BadLengths}
+use Rattle.std.specs.Prelude.{Ok}
 use Rattle.scope.specs.Lists.{at}
 use Rattle.scope.specs.Answers.{require}
 use Rattle.scope.specs.Cells.{valid_cell, owner_of}
@@ -39,23 +40,23 @@ use Rattle.scope.proofs.Linked.{at_in, Used, Has, Linked, slot_used, row_slot}
 use Rattle.scope.proofs.Placed.{Placeable}
 
 pub record Sound (t : Table) (m : Memory) : Type 0 where
-  pub table : table_verdict t ≡ Accepted
+  pub table : table_verdict t ≡ Ok tt
   pub lengths : Lengths t m
   pub rules : RulesGood t m
 
-pub sound_from : (t : Table) (m : Memory) → table_verdict t ≡ Accepted → lengths_fit t m ≡ true → rules_kept t m ≡ true → Sound t m
+pub sound_from : (t : Table) (m : Memory) → table_verdict t ≡ Ok tt → lengths_fit t m ≡ true → rules_kept t m ≡ true → Sound t m
 sound_from t m e l r = record { table = e; lengths = lengths_good t m l; rules = rules_good t m r }
 
-pub sound_state : (t : Table) (m : Memory) → state_verdict t m ≡ Accepted → Sound t m
+pub sound_state : (t : Table) (m : Memory) → state_verdict t m ≡ Ok tt → Sound t m
 unfolding state_verdict
 sound_state t m e =
-    let e₂ = second_accepts (require (lengths_fit t m) 10 0) _ e in
-    sound_from t m (first_accepts _ _ e₂) (require_holds _ 10 0 (first_accepts _ _ e)) (require_holds _ 9 0 (second_accepts (table_verdict t) _ e₂))
+    let e₂ = second_accepts (require (lengths_fit t m) BadLengths) _ e in
+    sound_from t m (first_accepts _ _ e₂) (require_holds _ BadLengths (first_accepts _ _ e)) (require_holds _ BrokenState (second_accepts (table_verdict t) _ e₂))
 
-pub state_sound : {t : Table} {m : Memory} → Sound t m → state_verdict t m ≡ Accepted
+pub state_sound : {t : Table} {m : Memory} → Sound t m → state_verdict t m ≡ Ok tt
 unfolding state_verdict
-state_sound {t} {m} S = both_accept _ _ (require_accepts _ 10 0 (lengths_kept t m S.lengths))
-    (both_accept _ _ S.table (require_accepts _ 9 0 (rules_kept_lem t m S.rules)))
+state_sound {t} {m} S = both_accept _ _ (require_accepts _ BadLengths (lengths_kept t m S.lengths))
+    (both_accept _ _ S.table (require_accepts _ BrokenState (rules_kept_lem t m S.rules)))
 
 module _ {t : Table} {m : Memory} (S : Sound t m) where
   pub sound_table : TableGood t
@@ -96,10 +97,10 @@ module _ {t : Table} {m : Memory} (S : Sound t m) where
 
 pub record Offered (t : Table) (m : Memory) (x : ℕ) : Type 0 where
   pub sound : Sound t m
-  pub cell : cell_verdict (kept_mode m) (target_of t) (places m) (held_cells m) x ≡ Accepted
-  pub outline : outline_verdict t m (outline_rows t x) ≡ Accepted
+  pub cell : cell_verdict (kept_mode m) (target_of t) (places m) (held_cells m) x ≡ Ok tt
+  pub outline : outline_verdict t m (outline_rows t x) ≡ Ok tt
 
-pub offered : (t : Table) (m : Memory) (x : ℕ) → offer_verdict t m x ≡ Accepted → Offered t m x
+pub offered : (t : Table) (m : Memory) (x : ℕ) → offer_verdict t m x ≡ Ok tt → Offered t m x
 unfolding offer_verdict
 offered t m x e =
     let e₂ = second_accepts (state_verdict t m) _ e in
@@ -152,14 +153,14 @@ module _ {t : Table} {m : Memory} {x : ℕ} (O : Offered t m x) where
   unfolding outline_verdict
   offered_outline =
       let o = outline_rows t x in
-      let e₂ = second_accepts (require (all_in_table t o) 5 (held m)) _ O.outline in
-      let all = require_holds (all_in_table t o) 5 (held m) (first_accepts _ _ O.outline) in
+      let e₂ = second_accepts (require (all_in_table t o) (EdgeNotInTable (held m))) _ O.outline in
+      let all = require_holds (all_in_table t o) (EdgeNotInTable (held m)) (first_accepts _ _ O.outline) in
       record {
-        once = fresh_test o (not-true (names_twice o) (require_holds (not (names_twice o)) 6 (held m) (first_accepts _ _ e₂)));
+        once = fresh_test o (not-true (names_twice o) (require_holds (not (names_twice o)) (EdgeTwice (held m)) (first_accepts _ _ e₂)));
         in_table = λ a i.
             let q = place i in
             let l : at o q.0 < row_count t = ltb-true _ _ (passes_at (λ k. ltb (at o k) (row_count t)) (length o) all q.0 q.1) in
             rw q.2 at l;
         none_held = row_new;
-        room = leb-true _ _ (require_holds (enough_slots m o) 7 (held m) (second_accepts (require (not (names_twice o)) 6 (held m)) _ e₂));
+        room = leb-true _ _ (require_holds (enough_slots m o) (PoolFull (held m)) (second_accepts (require (not (names_twice o)) (EdgeTwice (held m))) _ e₂));
       }

@@ -13,7 +13,8 @@ use lib.Dec.{eqb, leb}
 use lib.ListN.{length, get_or}
 use lib.Ieee.{nan}
 use borrow.Author.Tests.{ne_eqb, ltb-true, leb-true, eqb-true}
-use Rattle.scope.specs.declared.Verdict.TheVariants.{Accepted}
+use Rattle.scope.specs.declared.Refusal.TheVariants.{BadTable}
+use Rattle.std.specs.Prelude.{Ok}
 use Rattle.scope.specs.Lists.{at, passes}
 use Rattle.scope.specs.Answers.{require}
 use Rattle.scope.specs.Cells.{resolution_of, valid_edge}
@@ -68,17 +69,17 @@ pub record TableGood (t : Table) : Type 0 where
   pub reverses : Reverses (λ a. a < row_count t) (reverse_of t)
   pub finite : (a : ℕ) → a < row_count t → is_finite (get_or t.area a nan) ≡ true
 
-pub table_good : (t : Table) → table_agrees t ≡ true → table_verdict t ≡ Accepted → TableGood t
+pub table_good : (t : Table) → table_agrees t ≡ true → table_verdict t ≡ Ok tt → TableGood t
 unfolding table_verdict row_good
 table_good t agree e =
     let n = row_count t in
     let es = t.edges in
-    let count = require (row_count_fits n) 1 0 in
-    let one = require (passes (has_target es) n) 1 0 in
-    let fits : row_count_fits n ≡ true = require_holds _ 1 0 (first_accepts count _ e) in
-    let targets : passes (has_target es) n ≡ true = require_holds _ 1 0 (first_accepts one _ (second_accepts count _ e)) in
+    let count = require (row_count_fits n) (BadTable 0) in
+    let one = require (passes (has_target es) n) (BadTable 0) in
+    let fits : row_count_fits n ≡ true = require_holds _ (BadTable 0) (first_accepts count _ e) in
+    let targets : passes (has_target es) n ≡ true = require_holds _ (BadTable 0) (first_accepts one _ (second_accepts count _ e)) in
     let row : (a : ℕ) → a < n → row_good t a ≡ true =
-    none_fails 1 (row_good t) n (second_accepts one _ (second_accepts count _ e)) in
+    none_fails BadTable (row_good t) n (second_accepts one _ (second_accepts count _ e)) in
     let rows : passes (row_good t) n ≡ true = passes_all (row_good t) n row in
     let long : length t.reverse ≡ n = eqb-true _ _ (and_left _ _ agree) in
     let edge : (a : ℕ) → a < n → (valid_edge (at es a) && ascends es a) ≡ true =

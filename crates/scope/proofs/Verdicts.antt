@@ -12,52 +12,52 @@ use native.Mathlib.Nat.{eq-or-lt_of_le}
 use native.Mathlib.Omega.{arith}
 use lib.Dec.{ltb}
 use borrow.Author.Tests.{lt-ltb, le-ltb, ltb-false}
-use Rattle.scope.specs.declared.Verdict.{Verdict}
-use Rattle.scope.specs.declared.Verdict.TheVariants.{Accepted, Refused}
+use Rattle.scope.specs.declared.Refusal.{Refusal}
+use Rattle.std.specs.Prelude.{Err, Ok}
 use Rattle.scope.specs.Lists.{first_bad}
-use Rattle.scope.specs.Answers.{require, require_none, is_accepted, ◌▷◌}
+use Rattle.scope.specs.Answers.{require, require_none, is_accepted, ◌▷◌, Verdict}
 use Rattle.scope.proofs.Tests.{either, le_or_lt}
 use Rattle.scope.proofs.Scan.{first_bad_lowest, first_bad_is}
 
-pub first_accepts : (v w : Verdict) → (v ▷ w) ≡ Accepted → v ≡ Accepted
-first_accepts Accepted w e = refl
-first_accepts (Refused number index) w e = e
+pub first_accepts : (v w : Verdict) → (v ▷ w) ≡ Ok tt → v ≡ Ok tt
+first_accepts (Ok _) w e = refl
+first_accepts (Err why) w e = e
 
-pub second_accepts : (v w : Verdict) → (v ▷ w) ≡ Accepted → w ≡ Accepted
-second_accepts Accepted w e = e
-second_accepts (Refused number index) w e = let z : ◌≡◌ {A = ℕ} 0 1 = cc in absurd (omega arith)
+pub second_accepts : (v w : Verdict) → (v ▷ w) ≡ Ok tt → w ≡ Ok tt
+second_accepts (Ok _) w e = e
+second_accepts (Err why) w e = let z : ◌≡◌ {A = ℕ} 0 1 = cc in absurd (omega arith)
 
-pub both_accept : (v w : Verdict) → v ≡ Accepted → w ≡ Accepted → (v ▷ w) ≡ Accepted
+pub both_accept : (v w : Verdict) → v ≡ Ok tt → w ≡ Ok tt → (v ▷ w) ≡ Ok tt
 both_accept v w p q = ap (λ (u : Verdict). u ▷ w) p ∙ q
 
-pub require_holds : (b : Bool) (number index : ℕ) → require b number index ≡ Accepted → b ≡ true
-require_holds true number index e = refl
-require_holds false number index e = let z : ◌≡◌ {A = ℕ} 0 1 = cc in absurd (omega arith)
+pub require_holds : (b : Bool) (why : Refusal) → require b why ≡ Ok tt → b ≡ true
+require_holds true why e = refl
+require_holds false why e = let z : ◌≡◌ {A = ℕ} 0 1 = cc in absurd (omega arith)
 
-pub require_accepts : (b : Bool) (number index : ℕ) → b ≡ true → require b number index ≡ Accepted
-require_accepts b number index e = ap (λ (t : Bool). require t number index) e
+pub require_accepts : (b : Bool) (why : Refusal) → b ≡ true → require b why ≡ Ok tt
+require_accepts b why e = ap (λ (t : Bool). require t why) e
 
-pub accepted : (v : Verdict) → is_accepted v ≡ true → v ≡ Accepted
-accepted Accepted e = refl
-accepted (Refused number index) e = let z : ◌≡◌ {A = ℕ} 0 1 = cc in absurd (omega arith)
+pub accepted : (v : Verdict) → is_accepted v ≡ true → v ≡ Ok tt
+accepted (Ok _) e = refl
+accepted (Err why) e = let z : ◌≡◌ {A = ℕ} 0 1 = cc in absurd (omega arith)
 
-none_below : (number n r : ℕ) → require_none number n r ≡ Accepted → ltb r n ≡ false
-none_below number n r e = go (ltb r n) e
+none_below : (why : ℕ → Refusal) (n r : ℕ) → require_none why n r ≡ Ok tt → ltb r n ≡ false
+none_below why n r e = go (ltb r n) e
   where
-    go : (t : Bool) → cond t (Refused number r) Accepted ≡ Accepted → t ≡ false
+    go : (t : Bool) → ◌≡◌ {A = Verdict} (cond t (Err (why r)) (Ok tt)) (Ok tt) → t ≡ false
     go true e = let z : ◌≡◌ {A = ℕ} 0 1 = cc in absurd (omega arith)
     go false e = refl
 
-module _ (number : ℕ) (ok : ℕ → Bool) (n : ℕ) where
-  pub none_fails : require_none number n (first_bad ok n) ≡ Accepted → (i : ℕ) → i < n → ok i ≡ true
-  none_fails e i h = let l = ltb-false (first_bad ok n) n (none_below number n (first_bad ok n) e) in (first_bad_lowest ok n).before i (omega arith)
+module _ (why : ℕ → Refusal) (ok : ℕ → Bool) (n : ℕ) where
+  pub none_fails : require_none why n (first_bad ok n) ≡ Ok tt → (i : ℕ) → i < n → ok i ≡ true
+  none_fails e i h = let l = ltb-false (first_bad ok n) n (none_below why n (first_bad ok n) e) in (first_bad_lowest ok n).before i (omega arith)
 
-  pub none_accepts : ((i : ℕ) → i < n → ok i ≡ true) → require_none number n (first_bad ok n) ≡ Accepted
+  pub none_accepts : ((i : ℕ) → i < n → ok i ≡ true) → require_none why n (first_bad ok n) ≡ Ok tt
   none_accepts p =
       let e : n ≡ first_bad ok n = first_bad_is ok n (record { within = omega arith; before = p; here = λ h. absurd (omega arith) }) in
-      ap (λ (b : Bool). cond b (Refused number (first_bad ok n)) Accepted) (le-ltb (first_bad ok n) n (omega arith))
+      ap (λ (b : Bool). cond b (Err (why (first_bad ok n))) (Ok tt)) (le-ltb (first_bad ok n) n (omega arith))
 
-  pub require_more : require_none number (suc n) (first_bad ok (suc n)) ≡ (require_none number n (first_bad ok n) ▷ require (ok n) number n)
+  pub require_more : require_none why (suc n) (first_bad ok (suc n)) ≡ (require_none why n (first_bad ok n) ▷ require (ok n) (why n))
   require_more =
       let L = first_bad_lowest ok n in
       ⊎_elim

@@ -14,7 +14,8 @@ use mathlib.Core.List.{List, [], ◌∷◌, map, Memᴰ}
 use Prim.Native.Nat.{ℕ, ◌+◌}
 use lib.Dec.{eqb}
 use lib.ListN.{length}
-use Rattle.scope.specs.declared.ReadOut.{ReadOut}
+use Rattle.scope.specs.Answers.{Answer}
+use Rattle.std.specs.Prelude.{Ok}
 use Rattle.scope.specs.declared.ReadOut.TheVariants.{Nothing, Closed, Outline}
 use Rattle.scope.specs.Lists.{below, keep, head_or}
 use Rattle.scope.specs.Afresh.{ring, starts_ring}
@@ -62,11 +63,11 @@ module _ (P : ℕ → Type 0) where
   map_cong f g e [] a = refl
   map_cong f g e (x ∷ l) a = rw (e x a.0, map_cong f g e l a.1)
 
-abbrev answer : Bool → Bool → ReadOut → ReadOut
-answer none closed some = cond none Nothing (cond closed Closed some)
+abbrev answer : Bool → Bool → Answer → Answer
+answer none closed some = cond none (Ok Nothing) (cond closed (Ok Closed) some)
 
-abbrev found : View → ReadOut
-found v = Outline (polygon_count v) (length (lowest_rows v)) (area_at v (head_or 0 (ordered v)))
+abbrev found : View → Answer
+found v = Ok (Outline (polygon_count v) (length (lowest_rows v)) (area_at v (head_or 0 (ordered v))))
 
 module _ {v w : View} (A : Alike v w) where
   abbrev S : ℕ → Type 0
@@ -169,12 +170,12 @@ module _ {v w : View} (A : Alike v w) where
   ordered_length = sort_length (ring_order v) (lowest_rows v)
 
   some_same : eqb (length (lowest_rows v)) 0 ≡ false
-      → Outline (polygon_count w) (length (lowest_rows w)) (area_at w (head_or 0 (ordered w))) ≡ Outline (polygon_count v) (length (lowest_rows v)) (area_at v (head_or 0 (ordered v)))
+      → found w ≡ found v
   some_same e =
       let first : area_at w (head_or 0 (ordered w)) ≡ area_at v (head_or 0 (ordered v)) =
       ap (λ (l : List ℕ). area_at w (head_or 0 l)) alike_ordered
       ∙ alike_area (head_or 0 (ordered v)) (head_stands (ordered v) ordered_stand (ap (λ (n : ℕ). eqb n 0) ordered_length ∙ e)) in
-      λ i. Outline (alike_polygons i) (length (alike_lowest i)) (first i)
+      λ i. Ok (Outline (alike_polygons i) (length (alike_lowest i)) (first i))
 
   pub alike_answer : eqb w.held 0 ≡ eqb v.held 0 → read_answer w ≡ read_answer v
   unfolding read_answer

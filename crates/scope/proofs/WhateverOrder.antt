@@ -17,7 +17,7 @@ use native.Mathlib.Omega.{arith}
 use lib.Dec.{eqb}
 use lib.ListN.{length}
 use borrow.Author.Tests.{eq-eqb, ne_eqb, eqb-true}
-use Rattle.scope.specs.declared.Verdict.TheVariants.{Accepted}
+use Rattle.std.specs.Prelude.{Ok}
 use Rattle.scope.specs.Lists.{at}
 use Rattle.scope.specs.Table.{Table, table_verdict}
 use Rattle.scope.specs.Standing.{OneGroup}
@@ -143,7 +143,7 @@ pub record Runs (t : Table) (m k : Memory) (cs ds : List ℕ) : Type 0 where
   pub views : Alike (view t m) (view t k)
   pub answer : read_answer (view t k) ≡ read_answer (view t m)
 
-pub runs_alike : (t : Table) (m k : Memory) (mode mode' : ℕ) (calls calls' : List Call) → table_verdict t ≡ Accepted → lengths_fit t m ≡ true → lengths_fit t k ≡ true
+pub runs_alike : (t : Table) (m k : Memory) (mode mode' : ℕ) (calls calls' : List Call) → table_verdict t ≡ Ok tt → lengths_fit t m ≡ true → lengths_fit t k ≡ true
     → SameMembers (ran t mode m calls).cells (ran t mode' k calls').cells
     → Runs t (ran t mode m calls).memory (ran t mode' k calls').memory (ran t mode m calls).cells (ran t mode' k calls').cells
 runs_alike t m k mode mode' calls calls' e l l' E =

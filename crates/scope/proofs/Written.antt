@@ -11,9 +11,8 @@ use mathlib.Core.Bool.{true}
 use mathlib.Core.Logic.{◌↔◌}
 use mathlib.Core.List.{List, Memᴰ}
 use lib.ListN.{length}
-use Rattle.scope.specs.declared.Verdict.{Verdict}
-use Rattle.scope.specs.declared.Verdict.TheVariants.{Accepted}
-use Rattle.scope.specs.Answers.{verdict_of, polygons_of, rings_of}
+use Rattle.std.specs.Prelude.{Ok}
+use Rattle.scope.specs.Answers.{verdict_of, polygons_of, rings_of, Verdict}
 use Rattle.scope.specs.Table.{Table, table_verdict}
 use Rattle.scope.specs.Standing.{StandsIn}
 use Rattle.scope.specs.Afresh.{rings}
@@ -35,7 +34,7 @@ abbrev pub drawn_reading : Table → List ℕ → Memory → Output → Reading
 drawn_reading t cs m o = record { answer = drawn_answer t cs; left = m; out = drawn_output t cs o }
 
 -- READ OUT
-pub read_writes : {t : Table} {m : Memory} {cs : List ℕ} → Shown t m cs → (o : Output) → read_verdict t m o ≡ Accepted → reading_out t m o ≡ drawn_reading t cs m o
+pub read_writes : {t : Table} {m : Memory} {cs : List ℕ} → Shown t m cs → (o : Output) → read_verdict t m o ≡ Ok tt → reading_out t m o ≡ drawn_reading t cs m o
 unfolding reading_out
 read_writes {t} {m} {cs} S o e =
     ap (λ (w : Verdict). reading w (read_from t m o) m o) e ∙ (λ i. record { answer = shown_answer S i; left = m; out = shown_written S o i })
@@ -47,9 +46,9 @@ HoldsStanding t cs l = Fresh l × ((a : ℕ) → Memᴰ a l ↔ StandsIn t cs a)
 shown_edges : {t : Table} {m : Memory} {cs : List ℕ} → Shown t m cs → HoldsStanding t cs (laid (drawn_rings t cs))
 shown_edges S = (drawn_once S.proper, drawn_standing S.proper)
 
-module _ (t : Table) (m : Memory) (mode : ℕ) (calls : List Call) (checked : table_verdict t ≡ Accepted) (fits : lengths_fit t m ≡ true) where
+module _ (t : Table) (m : Memory) (mode : ℕ) (calls : List Call) (checked : table_verdict t ≡ Ok tt) (fits : lengths_fit t m ≡ true) where
   -- AFTER ANY RUN OF CALLS
-  pub run_writes : (o : Output) → read_verdict t (ran t mode m calls).memory o ≡ Accepted
+  pub run_writes : (o : Output) → read_verdict t (ran t mode m calls).memory o ≡ Ok tt
       → reading_out t (ran t mode m calls).memory o ≡ drawn_reading t (ran t mode m calls).cells (ran t mode m calls).memory o
   run_writes = read_writes (ran_shown t m mode calls checked fits)
 
@@ -57,7 +56,7 @@ module _ (t : Table) (m : Memory) (mode : ℕ) (calls : List Call) (checked : ta
   run_edges = shown_edges (ran_shown t m mode calls checked fits)
 
 -- DISSOLVE
-module _ (t : Table) (m : Memory) (mode : ℕ) (xs : List ℕ) (o : Output) (done : verdict_of (dissolving t m mode xs o).answer ≡ Accepted) where
+module _ (t : Table) (m : Memory) (mode : ℕ) (xs : List ℕ) (o : Output) (done : verdict_of (dissolving t m mode xs o).answer ≡ Ok tt) where
   abbrev last : Memory
   last = (offering_all t (opened mode m) xs).left
 

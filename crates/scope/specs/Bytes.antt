@@ -1,15 +1,13 @@
 -- Document 01, "A host in Rust or C runs both ways in on byte slices": numbers, tables, states and answers as bytes, and the two entry
 -- points as functions from the bytes lent to the result and the bytes left. A byte is a number below 256.
 -- Assumes nothing.
-use Rattle.std.specs.Prelude.{ℕ, zero, suc, ◌+◌, ◌-◌, ◌*◌, ◌/◌, ◌%◌, ◌^◌, Bool, ◌&&◌, cond, List, [], ◌∷◌, ◌++◌, map, eqb, leb, ltb, Float, length, get_or, replicate}
+use Rattle.std.specs.Prelude.{ℕ, zero, suc, ◌+◌, ◌-◌, ◌*◌, ◌/◌, ◌%◌, ◌^◌, Bool, ◌&&◌, cond, List, [], ◌∷◌, ◌++◌, map, eqb, leb, ltb, length, get_or, replicate, Err, Ok}
 use Rattle.std.specs.Float.{nan, binary64}
 use Rattle.std.specs.Float.Ieee.{of_bits, to_bits}
-use Rattle.scope.specs.declared.Verdict.{Verdict}
-use Rattle.scope.specs.declared.Verdict.TheVariants as verdict
-use Rattle.scope.specs.declared.ReadOut.{ReadOut}
-use Rattle.scope.specs.declared.ReadOut.TheVariants as readout
+use Rattle.scope.specs.declared.Refusal.TheVariants.{BadLengths}
+use Rattle.scope.specs.declared.ReadOut.TheVariants.{Nothing, Closed, Outline}
 use Rattle.scope.specs.Lists.{at, total, tabulate}
-use Rattle.scope.specs.Answers.{refusal_of, index_of, kind_of, verdict_of, polygons_of, rings_of, require, ◌▷◌, if_accepted}
+use Rattle.scope.specs.Answers.{refusal_of, index_of, kind_of, verdict_of, polygons_of, rings_of, require, ◌▷◌, if_accepted, Answer, Verdict}
 use Rattle.scope.specs.Table.{Table, table, row_count}
 use Rattle.scope.specs.Memory.{Memory, memory, Output, output}
 use Rattle.scope.specs.Area.{positive_zero}
@@ -109,14 +107,14 @@ unfoldable pub result_of : Verdict → ℕ
 result_of v = refusal_of v * 2 ^ 32 + in32 (index_of v)
 
 -- Bits of the first outer area; 0 for nothing and closed. A NaN's bits are 7FF8000000000000.
-unfoldable pub area_bits : ReadOut → ℕ
-area_bits readout.Nothing = 0
-area_bits readout.Closed = 0
-area_bits (readout.Outline polygons rings area) = to_bits binary64 area
-area_bits (readout.Refused number index) = 0
+unfoldable pub area_bits : Answer → ℕ
+area_bits (Ok Nothing) = 0
+area_bits (Ok Closed) = 0
+area_bits (Ok (Outline polygons rings area)) = to_bits binary64 area
+area_bits (Err why) = 0
 
 -- as many edges as all rings are long
-unfoldable pub edge_count : ReadOut → Output → ℕ
+unfoldable pub edge_count : Answer → Output → ℕ
 edge_count r o = total (at o.size) (rings_of r)
 
 -- Kind u32 (0 nothing, 1 closed, 2 outline), polygons u32, rings u32, edges u32, bits of the first outer area u64.
@@ -134,7 +132,7 @@ ring_bytes o i = ring_record (at o.start i) (at o.size i) (at o.group i) (to_bit
 abbrev pub edge_bytes : Output → ℕ → List ℕ
 edge_bytes o i = bytes32 (at o.edges i)
 
-unfoldable pub read_bytes : ReadOut → Output → List ℕ
+unfoldable pub read_bytes : Answer → Output → List ℕ
 read_bytes r o =
     summary_record (kind_of r) (polygons_of r) (rings_of r) (edge_count r o) (area_bits r)
     ++ joined (ring_bytes o) (rings_of r)
@@ -170,17 +168,17 @@ abbrev pub left : Verdict → List ℕ → List ℕ → Left
 left v state out = record { result = result_of v; state = state; out = out }
 
 abbrev pub refused : List ℕ → List ℕ → Left
-refused state out = left (verdict.Refused 10 0) state out
+refused state out = left (Err BadLengths) state out
 
 -- open and offer write the state
 unfoldable pub storing : Outcome → List ℕ → List ℕ → Left
 storing o state out = left o.answer (if_accepted o.answer (state_bytes o.left) state) out
 
 -- Dissolve and read out write, when accepted, the answer; too short an output is refusal 10.
-abbrev pub shown_verdict : ReadOut → Output → List ℕ → Verdict
-shown_verdict r o out = verdict_of r ▷ require (leb (length (read_bytes r o)) (length out)) 10 0
+abbrev pub shown_verdict : Answer → Output → List ℕ → Verdict
+shown_verdict r o out = verdict_of r ▷ require (leb (length (read_bytes r o)) (length out)) BadLengths
 
-abbrev pub shown_out : ReadOut → Output → List ℕ → List ℕ
+abbrev pub shown_out : Answer → Output → List ℕ → List ℕ
 shown_out r o out = if_accepted (shown_verdict r o out) (over (read_bytes r o) out) out
 
 unfoldable pub showing : Reading → List ℕ → List ℕ → Left

@@ -1,12 +1,9 @@
 -- Document 01, "The part that comes over" and "Numbered refusals, in order of test": open, offer, read out and dissolve, as functions from
 -- the table, the memory and the arguments to the answer and the memory.
 -- Assumes nothing.
-use Rattle.std.specs.Prelude.{ℕ, Bool, ◌&&◌, List, [], ◌∷◌, ◌++◌, map, leb, length, drop}
-use Rattle.scope.specs.declared.Verdict.{Verdict}
-use Rattle.scope.specs.declared.Verdict.TheVariants as verdict
-use Rattle.scope.specs.declared.ReadOut.{ReadOut}
-use Rattle.scope.specs.declared.ReadOut.TheVariants as readout
-use Rattle.scope.specs.Answers.{require, ◌▷◌, if_accepted}
+use Rattle.std.specs.Prelude.{ℕ, Bool, ◌&&◌, List, [], ◌∷◌, ◌++◌, map, leb, length, drop, Err, Ok}
+use Rattle.scope.specs.declared.Refusal.TheVariants.{BrokenState, BadLengths}
+use Rattle.scope.specs.Answers.{require, ◌▷◌, if_accepted, Answer, Verdict}
 use Rattle.scope.specs.Table.{Table, target_of, table_verdict, outline_rows}
 use Rattle.scope.specs.CellLists.{list_verdict, cell_verdict}
 use Rattle.scope.specs.Memory.{Memory, Output, kept_mode, held_cells, places, opened, kept, lengths_fit, outputs_agree, mode_fits}
@@ -26,14 +23,14 @@ outcome v after before = record { answer = v; left = if_accepted v after before 
 
 -- Open: 10, 1.
 unfoldable pub open_verdict : Table → Memory → ℕ → Verdict
-open_verdict t m mode = require (lengths_fit t m && mode_fits mode) 10 0 ▷ table_verdict t
+open_verdict t m mode = require (lengths_fit t m && mode_fits mode) BadLengths ▷ table_verdict t
 
 unfoldable pub opening : Table → Memory → ℕ → Outcome
 opening t m mode = outcome (open_verdict t m mode) (opened mode m) m
 
 -- Offer and read out: 10, 1, 9.
 unfoldable pub state_verdict : Table → Memory → Verdict
-state_verdict t m = require (lengths_fit t m) 10 0 ▷ table_verdict t ▷ require (rules_kept t m) 9 0
+state_verdict t m = require (lengths_fit t m) BadLengths ▷ table_verdict t ▷ require (rules_kept t m) BrokenState
 
 -- Offer: 10, 1, 9, 2, 3, 4, 3, 8, 5, 6, 7.
 unfoldable pub offer_verdict : Table → Memory → ℕ → Verdict
@@ -48,7 +45,7 @@ offering t m x = outcome (offer_verdict t m x) (taking t m x) m
 -- ---- read out
 
 pub record Reading : Type 0 where
-  pub answer : ReadOut
+  pub answer : Answer
   pub left : Memory
   pub out : Output
 
@@ -77,12 +74,12 @@ read_from t m o = record { answer = read_answer (view t m); left = m; out = writ
 
 -- carried out, or refused with this memory left and the outputs untouched
 abbrev pub reading : Verdict → Reading → Memory → Output → Reading
-reading verdict.Accepted done m o = done
-reading (verdict.Refused number index) done m o = record { answer = readout.Refused number index; left = m; out = o }
+reading (Ok _) done m o = done
+reading (Err why) done m o = record { answer = Err why; left = m; out = o }
 
 -- Read out: 10, 1, 9; an output too short is tested after 9. Read out leaves the state as it was.
 unfoldable pub read_verdict : Table → Memory → Output → Verdict
-read_verdict t m o = require (outputs_agree o) 10 0 ▷ state_verdict t m ▷ require (output_fits (view t m) o) 10 0
+read_verdict t m o = require (outputs_agree o) BadLengths ▷ state_verdict t m ▷ require (output_fits (view t m) o) BadLengths
 
 unfoldable pub reading_out : Table → Memory → Output → Reading
 reading_out t m o = reading (read_verdict t m o) (read_from t m o) m o
@@ -91,7 +88,7 @@ reading_out t m o = reading (read_verdict t m o) (read_from t m o) m o
 
 -- Offers in list order, up to the first that is refused.
 unfoldable pub offering_all : Table → Memory → List ℕ → Outcome
-offering_all t m [] = record { answer = verdict.Accepted; left = m }
+offering_all t m [] = record { answer = Ok tt; left = m }
 offering_all t m (x ∷ xs) =
     let first = offering t m x in
     let rest = offering_all t first.left xs in
@@ -100,7 +97,7 @@ offering_all t m (x ∷ xs) =
 -- Dissolve tests 10, 1, then 2, 3, 4, 3, 8 over the whole list.
 unfoldable pub dissolve_verdict : Table → Memory → ℕ → List ℕ → Output → Verdict
 dissolve_verdict t m mode cs o =
-    require (outputs_agree o) 10 0 ▷ open_verdict t m mode ▷ list_verdict (kept mode) (target_of t) (places m) cs
+    require (outputs_agree o) BadLengths ▷ open_verdict t m mode ▷ list_verdict (kept mode) (target_of t) (places m) cs
 
 -- Then open, offers in list order (5, 6, 7 for each cell in turn), and read out, output lengths last. Refused by these, dissolve leaves
 -- the work memory as newly opened, the outputs untouched.
@@ -108,7 +105,7 @@ unfoldable pub working : Table → Memory → ℕ → List ℕ → Output → Re
 working t m mode cs o =
     let fresh = opened mode m in
     let last = offering_all t fresh cs in
-    reading (last.answer ▷ require (output_fits (view t last.left) o) 10 0) (read_from t last.left o) fresh o
+    reading (last.answer ▷ require (output_fits (view t last.left) o) BadLengths) (read_from t last.left o) fresh o
 
 -- Every other refusal writes nothing.
 unfoldable pub dissolving : Table → Memory → ℕ → List ℕ → Output → Reading

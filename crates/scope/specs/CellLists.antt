@@ -1,10 +1,9 @@
 -- Document 01, "Numbered refusals": 2, 3, 4, the second 3 and 8, over a whole list and for one cell against those that are held.
 -- Assumes nothing.
-use Rattle.std.specs.Prelude.{ℕ, suc, Bool, true, false, ◌&&◌, not, cond, List, eqb, leb, length}
-use Rattle.scope.specs.declared.Verdict.{Verdict}
-use Rattle.scope.specs.declared.Verdict.TheVariants.{Accepted}
+use Rattle.std.specs.Prelude.{ℕ, suc, Bool, true, false, ◌&&◌, not, cond, List, eqb, leb, length, Ok}
+use Rattle.scope.specs.declared.Refusal.TheVariants.{InvalidCell, DuplicateInput, UnsupportedResolution, TooManyCells}
 use Rattle.scope.specs.Lists.{at, first_bad, passes}
-use Rattle.scope.specs.Answers.{require, require_none, ◌▷◌}
+use Rattle.scope.specs.Answers.{require, require_none, ◌▷◌, Verdict}
 use Rattle.scope.specs.Cells.{resolution_of, valid_cell, under}
 
 -- Modes: 0 even, 1 mixed.
@@ -37,19 +36,19 @@ abbrev pub under_none : List ℕ → ℕ → Bool
 under_none cs i = passes (not_under cs (at cs i)) (length cs)
 
 abbrev pub in_mixed : ℕ → Verdict → Verdict
-in_mixed mode v = cond (is_even mode) Accepted v
+in_mixed mode v = cond (is_even mode) (Ok tt) v
 
 -- 8 unless there are no more cells than capacity.
 abbrev pub room_for : ℕ → ℕ → Verdict
-room_for capacity n = require (leb n capacity) 8 0
+room_for capacity n = require (leb n capacity) TooManyCells
 
 -- A whole list: lowest index; of equal cells the index of the lowest second one; of nested ones the lowest index of a cell under another.
 unfoldable pub list_verdict : ℕ → ℕ → ℕ → List ℕ → Verdict
 list_verdict mode target capacity cs =
-    require_none 2 (length cs) (first_bad (valid_at cs) (length cs))
-    ▷ require_none 3 (length cs) (first_bad (first_of_its_kind cs) (length cs))
-    ▷ require_none 4 (length cs) (first_bad (resolution_fits_at mode target cs) (length cs))
-    ▷ in_mixed mode (require_none 3 (length cs) (first_bad (under_none cs) (length cs)))
+    require_none InvalidCell (length cs) (first_bad (valid_at cs) (length cs))
+    ▷ require_none DuplicateInput (length cs) (first_bad (first_of_its_kind cs) (length cs))
+    ▷ require_none UnsupportedResolution (length cs) (first_bad (resolution_fits_at mode target cs) (length cs))
+    ▷ in_mixed mode (require_none DuplicateInput (length cs) (first_bad (under_none cs) (length cs)))
     ▷ room_for capacity (length cs)
 
 -- An offer's index is the number of cells already held; for the second kind of 3 it is the place of the cell that lies under
@@ -59,10 +58,10 @@ not_over cs x i = not (under (at cs i) x)
 
 unfoldable pub cell_verdict : ℕ → ℕ → ℕ → List ℕ → ℕ → Verdict
 cell_verdict mode target capacity cs x =
-    require (valid_cell x) 2 (length cs)
-    ▷ require (passes (differs cs x) (length cs)) 3 (length cs)
-    ▷ require (resolution_fits mode target x) 4 (length cs)
+    require (valid_cell x) (InvalidCell (length cs))
+    ▷ require (passes (differs cs x) (length cs)) (DuplicateInput (length cs))
+    ▷ require (resolution_fits mode target x) (UnsupportedResolution (length cs))
     ▷ in_mixed mode
-    (require_none 3 (length cs) (first_bad (not_over cs x) (length cs))
-    ▷ require (passes (not_under cs x) (length cs)) 3 (length cs))
+    (require_none DuplicateInput (length cs) (first_bad (not_over cs x) (length cs))
+    ▷ require (passes (not_under cs x) (length cs)) (DuplicateInput (length cs)))
     ▷ room_for capacity (suc (length cs))

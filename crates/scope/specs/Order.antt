@@ -1,9 +1,9 @@
 -- Document 01, "Area and order": rings, polygons, the ring list and the edge list of a state. A ring is named by its lowest row.
 -- Assumes nothing.
-use Rattle.std.specs.Prelude.{ℕ, zero, suc, ◌+◌, ◌-◌, Bool, true, false, not, cond, eqb, leb, Float, length, get_or}
+use Rattle.std.specs.Prelude.{ℕ, zero, suc, ◌+◌, ◌-◌, Bool, true, false, not, cond, eqb, leb, Float, length, get_or, Ok}
 use mathlib.Core.List.{List, [], ◌∷◌, ◌++◌, map}
 use Rattle.std.specs.Float.{nan}
-use Rattle.scope.specs.declared.ReadOut.{ReadOut}
+use Rattle.scope.specs.Answers.{Answer}
 use Rattle.scope.specs.declared.ReadOut.TheVariants.{Nothing, Closed, Outline}
 use Rattle.scope.specs.Lists.{at, first_bad, below, keep, head_or}
 use Rattle.scope.specs.Table.{Table}
@@ -128,8 +128,8 @@ edge_rows v [] = []
 edge_rows v (r ∷ l) = ring_at v r ++ edge_rows v l
 
 -- Read out answers: nothing (no cells), closed (cells, but no edge stands), or outline with polygon count, ring count and the first outer area.
-unfoldable pub read_answer : View → ReadOut
+unfoldable pub read_answer : View → Answer
 read_answer v =
     let rs = lowest_rows v in
-    let some = Outline (polygon_count v) (length rs) (area_at v (head_or 0 (ordered v))) in
-    cond (eqb v.held 0) Nothing (cond (eqb (length rs) 0) Closed some)
+    let some = Ok (Outline (polygon_count v) (length rs) (area_at v (head_or 0 (ordered v)))) in
+    cond (eqb v.held 0) (Ok Nothing) (cond (eqb (length rs) 0) (Ok Closed) some)

@@ -1,9 +1,9 @@
 -- Document 01, "Standing edges, rings, groups": the pool. Placing an outline, and cancelling, all pairs at once.
 -- Assumes nothing.
 use Rattle.std.specs.Prelude.{ℕ, suc, ◌+◌, Bool, true, false, ◌&&◌, ◌||◌, not, cond, List, [], ◌∷◌, map, leb, ltb, length, set, take, replicate}
-use Rattle.scope.specs.declared.Verdict.{Verdict}
+use Rattle.scope.specs.declared.Refusal.TheVariants.{EdgeNotInTable, EdgeTwice, PoolFull}
 use Rattle.scope.specs.Lists.{at, passes, below, member, tabulate, rotate, put_all, follow}
-use Rattle.scope.specs.Answers.{require, ◌▷◌}
+use Rattle.scope.specs.Answers.{require, ◌▷◌, Verdict}
 use Rattle.scope.specs.Table.{Table, row_count, reverse_of, outline_rows}
 use Rattle.scope.specs.Memory.{Memory, memory, held, slots, is_used, row_in, has_slot, slot_of}
 use Rattle.scope.specs.UnionFind.{United, uniting}
@@ -33,7 +33,7 @@ enough_slots m o = leb (length o) (length (free_slots m))
 -- 5, 6 and 7, with the index of the cell.
 unfoldable pub outline_verdict : Table → Memory → List ℕ → Verdict
 outline_verdict t m o =
-    require (all_in_table t o) 5 (held m) ▷ require (not (names_twice o)) 6 (held m) ▷ require (enough_slots m o) 7 (held m)
+    require (all_in_table t o) (EdgeNotInTable (held m)) ▷ require (not (names_twice o)) (EdgeTwice (held m)) ▷ require (enough_slots m o) (PoolFull (held m))
 
 -- The state with one more cell, its outline's edges in their slots, linked in walk order.
 unfoldable pub placed : Memory → ℕ → List ℕ → Memory

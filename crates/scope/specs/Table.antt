@@ -1,11 +1,10 @@
 -- Document 01, "The edge table (added)".
 -- Assumes nothing.
-use Rattle.std.specs.Prelude.{ℕ, ◌-◌, Bool, true, false, ◌&&◌, ◌||◌, not, List, map, eqb, leb, ltb, length, get_or, Float}
+use Rattle.std.specs.Prelude.{ℕ, ◌-◌, Bool, true, false, ◌&&◌, ◌||◌, not, List, map, eqb, leb, ltb, length, get_or, Float, Option}
 use Rattle.std.specs.Float.{nan, inf, fin}
-use Rattle.scope.specs.declared.Verdict.{Verdict}
-use Rattle.scope.specs.declared.Found.{Found}
+use Rattle.scope.specs.declared.Refusal.TheVariants.{BadTable}
 use Rattle.scope.specs.Lists.{at, first_bad, passes}
-use Rattle.scope.specs.Answers.{require, require_none, ◌▷◌, found_below}
+use Rattle.scope.specs.Answers.{require, require_none, ◌▷◌, found_below, Verdict}
 use Rattle.scope.specs.Cells.{resolution_of, valid_edge}
 use Rattle.scope.specs.Walk.{outline}
 
@@ -55,9 +54,9 @@ row_good t i = valid_edge (at t.edges i) && ascends t.edges i && paired t.revers
 -- Refusal 1: 0 for a bad row count or, tested next, unequal resolution fields; else the lowest bad row.
 unfoldable pub table_verdict : Table → Verdict
 table_verdict t =
-    require (row_count_fits (row_count t)) 1 0
-    ▷ require (passes (has_target t.edges) (row_count t)) 1 0
-    ▷ require_none 1 (row_count t) (first_bad (row_good t) (row_count t))
+    require (row_count_fits (row_count t)) (BadTable 0)
+    ▷ require (passes (has_target t.edges) (row_count t)) (BadTable 0)
+    ▷ require_none BadTable (row_count t) (first_bad (row_good t) (row_count t))
 
 -- The row of an edge: the lowest that holds it, and the row count where none does.
 abbrev pub is_other : List ℕ → ℕ → ℕ → Bool
@@ -66,7 +65,7 @@ is_other es e i = not (eqb (at es i) e)
 unfoldable pub row_of : List ℕ → ℕ → ℕ
 row_of es e = first_bad (is_other es e) (length es)
 
-unfoldable pub find_row : List ℕ → ℕ → Found
+unfoldable pub find_row : List ℕ → ℕ → Option ℕ
 find_row es e = found_below (length es) (row_of es e)
 
 -- The outline (walk to the target) of a cell, as rows.

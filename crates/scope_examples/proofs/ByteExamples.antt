@@ -18,7 +18,7 @@ use Rattle.scope_examples.proofs.Odd.{edge_numbers, reverse_rows}
 -- ---- the definitions, with all that they compute with
 
 standing : List ℕ → List ℕ → List ℕ → ℕ → ℕ → ℕ → ℕ → Left
-unfolding Computing.read Lists.total tabulate_from Ieee.to_bits Answers.refusal_of Answers.index_of Answers.kind_of Answers.verdict_of Answers.polygons_of Answers.rings_of joined table_in state_in state_bytes Bytes.result_of Bytes.area_bits Bytes.edge_count Bytes.read_bytes Bytes.cleared_output Bytes.storing Bytes.showing Bytes.calling zone_standing
+unfolding Computing.read Lists.total tabulate_from Ieee.to_bits Answers.refusal_number Answers.refusal_index Answers.refusal_of Answers.index_of Answers.kind_of Answers.verdict_of Answers.polygons_of Answers.rings_of joined table_in state_in state_bytes Bytes.result_of Bytes.area_bits Bytes.edge_count Bytes.read_bytes Bytes.cleared_output Bytes.storing Bytes.showing Bytes.calling zone_standing
 standing t s o slots places call value = zone_standing t s o slots places call value
 
 dissolve : List ℕ → List ℕ → List ℕ → ℕ → ℕ → ℕ → Left

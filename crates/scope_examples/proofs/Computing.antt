@@ -1,12 +1,12 @@
 -- The definitions that examples compute with, under a short name for each use. To unfold such a name is to unfold all that it computes with.
 -- Assumes nothing.
 use Prim.Native.Nat.{ℕ}
-use mathlib.Core.Bool.{Bool, ◌&&◌}
+use mathlib.Core.Bool.{Bool}
 use mathlib.Core.List.{List, map}
 use lib.Ieee as Ieee
 use lib.Ieee.{Float, binary64, nan}
 use lib.ListN.{replicate}
-use Rattle.scope.specs.declared.Verdict.{Verdict}
+use Rattle.scope.specs.Answers.{Verdict}
 use Rattle.scope.specs.Lists as Lists
 use Rattle.scope.specs.Cells as Cells
 use Rattle.scope.specs.Cells.{valid_cell, valid_edge, under}

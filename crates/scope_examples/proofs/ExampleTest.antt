@@ -7,9 +7,8 @@ use lib.Dec.{eqb}
 use lib.Ieee as Ieee
 use lib.Ieee.{binary64}
 use lib.ListN.{length, take, drop, get_or, set}
-use Rattle.scope.specs.declared.Verdict.{Verdict}
 use Rattle.scope.specs.Lists.{head_or, below}
-use Rattle.scope.specs.Answers.{refusal_of, index_of, kind_of, verdict_of, polygons_of, rings_of, area_in}
+use Rattle.scope.specs.Answers.{refusal_number, refusal_index, refusal_of, index_of, kind_of, verdict_of, polygons_of, rings_of, area_in, Verdict}
 use Rattle.scope.specs.Cells.{edge_number, resolution_of}
 use Rattle.scope.specs.Table.{row_count_fits}
 use Rattle.scope.specs.Memory.{Memory, memory, Output, output, kept_mode}
@@ -46,7 +45,7 @@ sum [] = 0
 sum (n ∷ l) = n + sum l
 
 is_refusal : Verdict → ℕ → ℕ → Bool
-unfolding refusal_of index_of
+unfolding refusal_number refusal_index refusal_of index_of
 is_refusal v number index = eqb (refusal_of v) number && eqb (index_of v) index
 
 slices : Memory → List (List ℕ)

@@ -2,7 +2,7 @@
 -- Assumes nothing.
 use Prim.Native.Nat.{ℕ}
 use mathlib.Core.List.{List, [], ◌∷◌, map}
-use lib.Ieee.{Float, binary64, of_bits}
+use lib.Ieee.{binary64, of_bits}
 use Rattle.scope.specs.Table.{Table, table}
 
 unfoldable pub edge_numbers : List ℕ

@@ -1,0 +1,3 @@
+-- Lent values handed through several calls.
+pub mod Same
+pub mod Fronts

@@ -1,0 +1,71 @@
+-- A call that hands back the very slices that it was lent, and calls in a row that do.
+--     memory_refl, marks_refl, output_refl     no call
+--     memory_on, marks_on, output_on           one call after another
+--     state_is, drawn_is                       what is to be read is what is lent
+-- Assumes nothing.
+use mathlib.Core.Path.{◌≡◌, refl, ◌∙◌}
+use Rattle.lent.specs.declared.Memory.{Memory}
+use Rattle.lent.specs.declared.Marks.{Marks}
+use Rattle.lent.specs.declared.Output.{Output}
+use Rattle.lent.specs.declared.State.{State}
+use Rattle.lent.specs.declared.Drawn.{Drawn}
+use Rattle.lent.specs.Lent.{memory_of, state_of, output_of, drawn_of, IsRead, IsDrawn, SameMemory, SameMarks, SameOutput}
+
+pub memory_refl : (a : Memory) → SameMemory a a
+memory_refl a = record { head = refl; cells = refl; parent = refl; rank = refl; slot_row = refl; slot_cell = refl; prev = refl; next = refl; row_slot = refl; head_length = refl; cells_length = refl; parent_length = refl; rank_length = refl; slot_row_length = refl; slot_cell_length = refl; prev_length = refl; next_length = refl; row_slot_length = refl }
+
+pub memory_on : {a b c : Memory} → SameMemory a b → SameMemory b c → SameMemory a c
+memory_on p q = record {
+  head = q.head ∙ p.head;
+  cells = q.cells ∙ p.cells;
+  parent = q.parent ∙ p.parent;
+  rank = q.rank ∙ p.rank;
+  slot_row = q.slot_row ∙ p.slot_row;
+  slot_cell = q.slot_cell ∙ p.slot_cell;
+  prev = q.prev ∙ p.prev;
+  next = q.next ∙ p.next;
+  row_slot = q.row_slot ∙ p.row_slot;
+  head_length = q.head_length ∙ p.head_length;
+  cells_length = q.cells_length ∙ p.cells_length;
+  parent_length = q.parent_length ∙ p.parent_length;
+  rank_length = q.rank_length ∙ p.rank_length;
+  slot_row_length = q.slot_row_length ∙ p.slot_row_length;
+  slot_cell_length = q.slot_cell_length ∙ p.slot_cell_length;
+  prev_length = q.prev_length ∙ p.prev_length;
+  next_length = q.next_length ∙ p.next_length;
+  row_slot_length = q.row_slot_length ∙ p.row_slot_length;
+}
+
+pub marks_refl : (a : Marks) → SameMarks a a
+marks_refl a = record { cell_mark = refl; row_mark = refl; cell_mark_length = refl; row_mark_length = refl }
+
+pub marks_on : {a b c : Marks} → SameMarks a b → SameMarks b c → SameMarks a c
+marks_on p q = record {
+  cell_mark = q.cell_mark ∙ p.cell_mark;
+  row_mark = q.row_mark ∙ p.row_mark;
+  cell_mark_length = q.cell_mark_length ∙ p.cell_mark_length;
+  row_mark_length = q.row_mark_length ∙ p.row_mark_length;
+}
+
+pub output_refl : (a : Output) → SameOutput a a
+output_refl a = record { start = refl; size = refl; group = refl; area = refl; edges = refl; start_length = refl; size_length = refl; group_length = refl; area_length = refl; edges_length = refl }
+
+pub output_on : {a b c : Output} → SameOutput a b → SameOutput b c → SameOutput a c
+output_on p q = record {
+  start = q.start ∙ p.start;
+  size = q.size ∙ p.size;
+  group = q.group ∙ p.group;
+  area = q.area ∙ p.area;
+  edges = q.edges ∙ p.edges;
+  start_length = q.start_length ∙ p.start_length;
+  size_length = q.size_length ∙ p.size_length;
+  group_length = q.group_length ∙ p.group_length;
+  area_length = q.area_length ∙ p.area_length;
+  edges_length = q.edges_length ∙ p.edges_length;
+}
+
+pub state_is : {m : Memory} {s : State} (k : Marks) → IsRead m s → state_of s k ≡ memory_of m k
+state_is k e = rw (e.head, e.cells, e.parent, e.rank, e.slot_row, e.slot_cell, e.prev, e.next, e.row_slot)
+
+pub drawn_is : {o : Output} {d : Drawn} → IsDrawn o d → drawn_of d ≡ output_of o
+drawn_is e = rw (e.start, e.size, e.group, e.area, e.edges)

@@ -1,28 +1,26 @@
 -- Runs of bytes stored one after the other.
 --     sets_append      a run stored behind another is the two joined
---     joined_length    n runs of w bytes
 --     Written, written_none, written_next     the invariant of a loop that stores the i-th run at start + w · i, and its moves
---     long32, long64   the bytes of all numbers of a list
 --     behind           one store after another
+--     copied           a run copied into a slice
+--     bytes64_is       the eight bytes of a number, each by its own quotient
 -- Assumes nothing.
 use mathlib.Core.Path.{◌≡◌, refl, sym, ◌∙◌, ap}
-use mathlib.Core.List.{List, [], ◌∷◌, ◌++◌}
-use Prim.Native.Nat.{ℕ, zero, suc, ◌+◌, ◌*◌, ◌≤◌, ◌<◌}
+use mathlib.Core.List.{List, [], ◌∷◌, ◌++◌, append_assoc}
+use Prim.Native.Nat.{ℕ, suc, ◌+◌, ◌*◌, ◌/◌, ◌%◌, ◌≤◌, ◌<◌}
 use native.Mathlib.Numerals.{add-one}
 use native.Mathlib.Omega.{arith}
-use lib.ListN.{length, set, length-append}
-use lib.Seq.{sets, length-sets}
-use Rattle.scope.specs.Lists.{at}
-use Rattle.scope.specs.Bytes.{bytes32, bytes64, joined, all32, all64}
+use lib.ListN.{length, set, take, drop}
+use lib.Seq.{sets, length-sets, sets-eq}
+use borrow.Rule.Slice.PartMut.{put_mid}
+use Rattle.std.proofs.lemmas.Slice.{put_mid-paste}
+use Rattle.std.proofs.lemmas.List.Edits.{paste_all}
+use Rattle.scope.specs.Bytes.{bytes64, joined}
+use Rattle.scope.proofs.RoundTrip.{joined_length}
 
 pub sets_append : {A : Type 0} (b x y : List A) (s k : ℕ) → k ≡ s + length x → sets (sets b s x) k y ≡ sets b s (x ++ y)
 sets_append b [] y s k e = ap (λ (z : ℕ). sets b z y) (let z : k ≡ s = omega arith in z)
 sets_append b (v ∷ x) y s k e = sets_append (set b s v) x y (suc s) k (omega arith)
-
-pub joined_length : (f : ℕ → List ℕ) (w : ℕ) → ((i : ℕ) → length (f i) ≡ w) → (n : ℕ) → length (joined f n) ≡ w * n
-unfolding joined
-joined_length f w e zero = omega arith
-joined_length f w e (suc n) = length-append (joined f n) (f n) ∙ (let a = joined_length f w e n in let b = e n in let z : length (joined f n) + length (f n) ≡ w * suc n = omega arith in z)
 
 pub record Written (f : ℕ → List ℕ) (b₀ : List ℕ) (start n : ℕ) (b : List ℕ) (i : ℕ) : Type 0 where
   pub within : i ≤ n
@@ -44,13 +42,19 @@ module _ {f : ℕ → List ℕ} {b₀ : List ℕ} {start n : ℕ} {b : List ℕ}
     len = ap length s ∙ length-sets b (start + w * i) (f i) ∙ W.len;
   }
 
--- ---- every number of a list, stored behind a run
-
-pub long32 : (l : List ℕ) → length (all32 l) ≡ 4 * length l
-long32 l = joined_length (λ i. bytes32 (at l i)) 4 (λ i. refl) (length l)
-
-pub long64 : (l : List ℕ) → length (all64 l) ≡ 8 * length l
-long64 l = joined_length (λ i. bytes64 (at l i)) 8 (λ i. refl) (length l)
+-- ---- runs behind each other
 
 pub behind : (b x y : List ℕ) (s : ℕ) {k : ℕ} {b₁ b₂ : List ℕ} → b₁ ≡ sets b s x → b₂ ≡ sets b₁ k y → k ≡ s + length x → b₂ ≡ sets b s (x ++ y)
 behind b x y s {k} p q e = q ∙ ap (λ (l : List ℕ). sets l k y) p ∙ sets_append b x y s k e
+
+pub copied : (b : List ℕ) (at k : ℕ) (ys vs : List ℕ) → ys ≡ vs → k ≡ length vs → at + k ≤ length b → put_mid at k b ys ≡ sets b at vs
+copied b at k ys vs e l h = put_mid-paste at k b ys vs (length vs) e (sym l) refl ∙ paste_all b at vs (length vs) refl
+    ∙ sym (append_assoc (take at b) vs (drop (at + length vs) b)) ∙ sym (sets-eq vs b at (omega arith))
+
+pub bytes64_is : (n : ℕ) → n % 256 ∷ n / 256 % 256 ∷ n / 65536 % 256 ∷ n / 16777216 % 256
+    ∷ n / 4294967296 % 256 ∷ n / 1099511627776 % 256 ∷ n / 281474976710656 % 256 ∷ n / 72057594037927936 % 256 ∷ [] ≡ bytes64 n
+bytes64_is n =
+    let a : n / 1099511627776 ≡ n / 4294967296 / 256 = omega arith in
+    let b : n / 281474976710656 ≡ n / 4294967296 / 65536 = omega arith in
+    let c : n / 72057594037927936 ≡ n / 4294967296 / 16777216 = omega arith in
+    rw (a, b, c)

@@ -2,64 +2,128 @@
 // The formats are those of scope's Bytes.
 #![tactic(auto)]
 
-ghost use Rattle.std.specs.Prelude.{◌≡◌, map, ℕ, ◌+◌, ◌*◌, ◌≤◌, ◌<◌, length};
+ghost use Rattle.std.specs.Prelude.{◌≡◌, refl, map, List, ℕ, ◌+◌, ◌*◌, ◌≤◌, ◌<◌, length, slice_index_or};
 ghost use Rattle.std.proofs.lemmas.List.Edits.{sets};
 ghost use Rattle.std.specs.Float.{binary64};
 ghost use Rattle.std.specs.Float.Ieee.{of_bits, to_bits};
-ghost use Rattle.scope.specs.Bytes.{u32_at, u64_at, bytes32, bytes64, column32, column64, all32, all64};
+ghost use Rattle.scope.specs.Bytes.{u32_at, u64_at, bytes32, bytes64, column32, column64, joined};
+ghost use Rattle.codec.specs.Columns.{Grows, tabulated, mapped};
 
-fn wide(x: u8) -> u32
-    ensures { (result ≡ x) × (result < 256) }
-{
-    x as u32
+// What is read from bytes.
+pub trait FromBytes: Copy {
+    ghost size: { ℕ };
+
+    // The value in the bytes from a place on.
+    ghost value_at: { List ℕ → ℕ → Self };
+
+    // So many of them, the first at place `start`, each `step` bytes after the one before.
+    ghost column: { List ℕ → ℕ → ℕ → ℕ → List Self };
+
+    fn read(b: &[u8], at: usize) -> Self
+        requires { at + size ≤ length b.now }
+        ensures { result ≡ value_at b.now at };
+
+    ghost column_grows: { (b : List ℕ) (start step : ℕ) → Grows (column b start step) (λ i. value_at b (start + i * step)) };
 }
 
-fn wide32(x: u32) -> u64
-    ensures { (result ≡ x) × (result < 4294967296) }
-{
-    x as u64
+impl FromBytes for u32 {
+    ghost size = { 4 };
+
+    ghost value_at = { u32_at };
+
+    ghost column = { column32 };
+
+    ghost column_grows = { λ b start step. tabulated (λ i. u32_at b (start + i * step)) };
+
+    fn read(b: &[u8], at: usize) -> u32 {
+        u32::from_le_bytes([b[at], b[at + 1], b[at + 2], b[at + 3]])
+    }
 }
 
-// The number in the four bytes from place `at` on.
-pub fn read_u32(b: &[u8], at: usize) -> u32
-    requires { at + 4 ≤ length b.now }
-    ensures { result ≡ u32_at b.now at }
-{
-    let b0 = wide(b[at]);
-    let b1 = wide(b[at + 1]);
-    let b2 = wide(b[at + 2]);
-    let b3 = wide(b[at + 3]);
-    b0 + b1 * 256 + b2 * 65536 + b3 * 16777216
+impl FromBytes for u64 {
+    ghost size = { 8 };
+
+    ghost value_at = { u64_at };
+
+    ghost column = { column64 };
+
+    ghost column_grows = { λ b start step. tabulated (λ i. u64_at b (start + i * step)) };
+
+    fn read(b: &[u8], at: usize) -> u64 {
+        u64::from(u32::read(b, at)) + u64::from(u32::read(b, at + 4)) * 0x1_0000_0000
+    }
 }
 
-// The number in the eight bytes from place `at` on.
-pub fn read_u64(b: &[u8], at: usize) -> u64
-    requires { at + 8 ≤ length b.now }
-    ensures { result ≡ u64_at b.now at }
-{
-    let low = wide32(read_u32(b, at));
-    let high = wide32(read_u32(b, at + 4));
-    low + high * 4294967296
+impl FromBytes for f64 {
+    ghost size = { 8 };
+
+    ghost value_at = { λ b i. of_bits binary64 (u64_at b i) };
+
+    ghost column = { λ b start step n. map (of_bits binary64) (column64 b start step n) };
+
+    ghost column_grows = { λ b start step. mapped (of_bits binary64) (λ i. u64_at b (start + i * step)) };
+
+    fn read(b: &[u8], at: usize) -> f64 {
+        float_of(u64::read(b, at))
+    }
 }
 
-// Writes the low four bytes of `n` from place `at` on.
+// Writes the low four bytes of `n` from place `at` on. Not `u32`'s `write` alone: callers hand over any number, also one past 32 bits.
 pub fn write_u32(b: &mut [u8], at: usize, n: u64)
     requires { at + 4 ≤ length b.old }
     ensures { b.new ≡ sets b.old at (bytes32 n) }
 {
-    b[at] = (n % 256) as u8;
-    b[at + 1] = (n / 256 % 256) as u8;
-    b[at + 2] = (n / 65536 % 256) as u8;
-    b[at + 3] = (n / 16777216 % 256) as u8;
+    b[at..at + 4].copy_from_slice(&n.to_le_bytes()[..4]);
 }
 
-// Writes the eight bytes of `n` from place `at` on.
-pub fn write_u64(b: &mut [u8], at: usize, n: u64)
-    requires { at + 8 ≤ length b.old }
-    ensures { b.new ≡ sets b.old at (bytes64 n) }
-{
-    write_u32(b, at, n);
-    write_u32(b, at + 4, n / 4294967296);
+// What is written as bytes.
+pub trait ToBytes: Copy {
+    ghost SIZE: { ℕ };
+
+    const SIZE: usize;
+
+    ghost bytes: { Self → List ℕ };
+
+    // What stands past the end of a list of them.
+    ghost zero: { Self };
+
+    fn write(self, b: &mut [u8], at: usize)
+        requires { at + SIZE ≤ length b.old }
+        ensures { b.new ≡ sets b.old at (bytes self) };
+
+    ghost sized: { (x : Self) → length (bytes x) ≡ SIZE };
+}
+
+impl ToBytes for u32 {
+    ghost SIZE = { 4 };
+
+    const SIZE: usize = 4;
+
+    ghost bytes = { bytes32 };
+
+    ghost zero = { 0 };
+
+    fn write(self, b: &mut [u8], at: usize) {
+        write_u32(b, at, u64::from(self));
+    }
+
+    ghost sized = { λ x. refl };
+}
+
+impl ToBytes for u64 {
+    ghost SIZE = { 8 };
+
+    const SIZE: usize = 8;
+
+    ghost bytes = { bytes64 };
+
+    ghost zero = { 0 };
+
+    fn write(self, b: &mut [u8], at: usize) {
+        b[at..at + 8].copy_from_slice(&self.to_le_bytes());
+    }
+
+    ghost sized = { λ x. refl };
 }
 
 // The float of a bit pattern. `from_bits` is not asked for a NaN's: no payload is promised.
@@ -84,59 +148,22 @@ pub fn bits_of(x: f64) -> u64
     }
 }
 
-// Fills `xs` with the numbers that stand at `start` and every `step` bytes after it.
-pub fn decode_u32s(b: &[u8], xs: &mut [u32], start: usize, step: usize)
-    requires { (i : ℕ) → i < length xs.old → start + i * step + 4 ≤ length b.now }
-    ensures { xs.new ≡ column32 b.now start step (length xs.old) }
+// Fills `xs` with what stands at `start` and every `step` bytes after it.
+pub fn decode<T: FromBytes>(b: &[u8], xs: &mut [T], start: usize, step: usize)
+    requires { (i : ℕ) → i < length xs.old → start + i * step + T.size ≤ length b.now }
+    ensures { xs.new ≡ T.column b.now start step (length xs.old) }
 {
-    let mut i = 0;
-    while i < xs.len() {
-        xs[i] = read_u32(b, start + i * step);
-        i += 1;
-    }
-}
-
-pub fn decode_u64s(b: &[u8], xs: &mut [u64], start: usize, step: usize)
-    requires { (i : ℕ) → i < length xs.old → start + i * step + 8 ≤ length b.now }
-    ensures { xs.new ≡ column64 b.now start step (length xs.old) }
-{
-    let mut i = 0;
-    while i < xs.len() {
-        xs[i] = read_u64(b, start + i * step);
-        i += 1;
-    }
-}
-
-pub fn decode_f64s(b: &[u8], xs: &mut [f64], start: usize, step: usize)
-    requires { (i : ℕ) → i < length xs.old → start + i * step + 8 ≤ length b.now }
-    ensures { xs.new ≡ map (of_bits binary64) (column64 b.now start step (length xs.old)) }
-{
-    let mut i = 0;
-    while i < xs.len() {
-        xs[i] = float_of(read_u64(b, start + i * step));
-        i += 1;
+    for i in 0..xs.len() {
+        xs[i] = T::read(b, start + i * step);
     }
 }
 
 // Writes every number of `xs`, one after the other, from place `start` on.
-pub fn encode_u32s(xs: &[u32], b: &mut [u8], start: usize)
-    requires { start + 4 * length xs.now ≤ length b.old }
-    ensures { b.new ≡ sets b.old start (all32 xs.now) }
+pub fn encode<T: ToBytes>(xs: &[T], b: &mut [u8], start: usize)
+    requires { start + T.SIZE * length xs.now ≤ length b.old }
+    ensures { b.new ≡ sets b.old start (joined (λ i. T.bytes (slice_index_or xs.now i T.zero)) (length xs.now)) }
 {
-    let mut i = 0;
-    while i < xs.len() {
-        write_u32(b, start + 4 * i, wide32(xs[i]));
-        i += 1;
-    }
-}
-
-pub fn encode_u64s(xs: &[u64], b: &mut [u8], start: usize)
-    requires { start + 8 * length xs.now ≤ length b.old }
-    ensures { b.new ≡ sets b.old start (all64 xs.now) }
-{
-    let mut i = 0;
-    while i < xs.len() {
-        write_u64(b, start + 8 * i, xs[i]);
-        i += 1;
+    for (i, x) in xs.iter().enumerate() {
+        x.write(b, start + T::SIZE * i);
     }
 }

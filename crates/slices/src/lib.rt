@@ -2,29 +2,22 @@
 // u32 in memory, usize in the code.
 #![tactic(auto)]
 
-ghost use Rattle.std.specs.Prelude.{◌≡◌, ◌<◌, ◌^◌, length, set};
-ghost use Rattle.scope.specs.Lists.{at, zeros};
-
-// A number of 32 bits as a usize.
-pub fn wide32(x: u32) -> usize
-    ensures { (result ≡ x) × (result < 2 ^ 32) }
-{
-    x as usize
-}
+ghost use Rattle.std.specs.Prelude.{◌≡◌, ◌<◌, ◌^◌, length, replicate, set};
+ghost use Rattle.scope.specs.Lists.{at};
 
 // The number at place `i`.
 pub fn get32(s: &[u32], i: usize) -> usize
     requires { i < length s.now }
     ensures { (result ≡ at s.now i) × (result < 2 ^ 32) }
 {
-    wide32(s[i])
+    s[i] as usize
 }
 
 // The number at place `i`, 0 past the end: for numbers that nothing has checked yet.
 pub fn at32(s: &[u32], i: usize) -> usize
     ensures { (result ≡ at s.now i) × (result < 2 ^ 32) }
 {
-    if i < s.len() { get32(s, i) } else { 0 }
+    s.get(i).map_or(0, |x| *x as usize)
 }
 
 // Stores `v` at place `i`.
@@ -35,24 +28,34 @@ pub fn put32(s: &mut [u32], i: usize, v: usize)
     s[i] = v as u32;
 }
 
-// Sets every number of the slice to 0.
-pub fn clear32(s: &mut [u32])
-    ensures { s.new ≡ zeros s.old }
-{
-    let mut i = 0;
-    while i < s.len() {
-        s[i] = 0;
-        i += 1;
-    }
+// A number that is copied, and its zero.
+pub trait Number: Copy {
+    ghost ZERO: { Self };
+
+    const ZERO: Self;
+
+    ghost copied: { Self.Clone.is_infallible ZERO × ((x : Self) → Self.Clone.is_clone ZERO x → x ≡ ZERO) };
 }
 
-// The same for the wide numbers of cells.
-pub fn clear64(s: &mut [u64])
-    ensures { s.new ≡ zeros s.old }
+impl Number for u32 {
+    ghost ZERO = { 0 };
+
+    const ZERO: u32 = 0;
+
+    ghost copied = { (tt, λ x e. e) };
+}
+
+impl Number for u64 {
+    ghost ZERO = { 0 };
+
+    const ZERO: u64 = 0;
+
+    ghost copied = { (tt, λ x e. e) };
+}
+
+// Sets every number of the slice to 0.
+pub fn clear<T: Number>(s: &mut [T])
+    ensures { s.new ≡ replicate (length s.old) T.ZERO }
 {
-    let mut place = 0;
-    while place < s.len() {
-        s[place] = 0;
-        place += 1;
-    }
+    s.fill(T::ZERO);
 }

@@ -2,18 +2,23 @@
 --     wrote_none, wrote_more     nothing is written; two texts in a row are the two joined
 --     wrote_long, wrote_within   the slice keeps its length, and the place is in it
 --     wrote_past, wrote_one      one byte at the end of the slice, and before it
+--     wrote_copied               a list, copied as far as the slice goes
 --     Writes, writes_none, writes_next, writes_all     the loop that writes a list byte by byte
 --     Runs, runs_none, runs_next                       the loop that writes the texts f 0, f 1, ..
 -- Assumes nothing.
-use Prim.Native.Nat.{ℕ, suc, ◌+◌, ◌≤◌, ◌<◌, min}
+use Prim.Native.Nat.{ℕ, suc, ◌+◌, ◌-◌, ◌≤◌, ◌<◌, min}
 use mathlib.Core.Path.{◌≡◌, refl, sym, ◌∙◌, ap}
-use mathlib.Core.List.{List, [], ◌∷◌, ◌++◌}
+use mathlib.Core.List.{List, [], ◌∷◌, ◌++◌, append_assoc}
 use mathlib.Core.Logic.{⊎_elim}
 use native.Mathlib.Nat.{min-eq_left, min-eq_right, min-le_right, add-zero}
 use native.Mathlib.Numerals.{add-one}
 use native.Mathlib.Omega.{arith}
-use lib.ListN.{length, set, take, get_or, length-append}
-use lib.Seq.{sets, length-sets, set_out, take-suc, take_all}
+use lib.ListN.{length, set, take, drop, get_or, length-append}
+use lib.Seq.{sets, length-sets, sets-eq, set_out, take-suc, take_all}
+use borrow.Rule.Slice.PartMut.{put_mid}
+use Rattle.std.proofs.lemmas.List.{length-take-le, take-append-drop}
+use Rattle.std.proofs.lemmas.List.Edits.{paste_all}
+use Rattle.std.proofs.lemmas.Slice.{put_mid-paste}
 use Rattle.scope.specs.Bytes.{joined}
 use Rattle.scope.proofs.Tests.{le_or_lt}
 use Rattle.text.specs.Text.{Wrote}
@@ -71,6 +76,26 @@ wrote_past b a v h k = record {
   bytes = sym (set_out b a v k);
   place = (let z : a ≡ length b = omega arith in z) ∙ sym (min-eq_right (omega arith));
 }
+
+-- ---- a list, copied as far as the slice goes
+
+pub wrote_copied : (b : List ℕ) (a n k : ℕ) (ys bytes : List ℕ) → a ≤ length b → n ≡ min (length bytes) (length b - a) → k ≡ n → ys ≡ take n bytes
+    → Wrote b a (put_mid a k b ys) (a + n) bytes
+wrote_copied b a n k ys bytes h e f g =
+    let l : length (take n bytes) ≡ n = length-take-le n bytes (omega arith) in
+    let m : n ≡ length (take n bytes) = sym l in
+    record {
+      bytes = put_mid-paste a k b ys (take n bytes) n g (sym f) m ∙ paste_all b a (take n bytes) n m
+          ∙ sym (append_assoc (take a b) (take n bytes) (drop (a + n) b))
+          ∙ ap (λ (i : ℕ). take a b ++ take n bytes ++ drop (a + i) b) m
+          ∙ sym (sets-eq (take n bytes) b a (omega arith))
+          ∙ ⊎_elim
+          (λ (w : length bytes ≤ n). ap (sets b a) (take_all n bytes w))
+          (λ (w : n < length bytes). sym (sets_past (sets b a (take n bytes)) (drop n bytes) (a + n) (rw (length-sets b a (take n bytes)) (omega arith)))
+          ∙ sets_append b (take n bytes) (drop n bytes) a (a + n) (ap (λ (i : ℕ). a + i) m) ∙ ap (sets b a) (take-append-drop n bytes))
+          (le_or_lt (length bytes) n);
+      place = omega arith;
+    }
 
 -- ---- a list, byte by byte
 

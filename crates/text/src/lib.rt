@@ -2,7 +2,7 @@
 // does not fit is left out, so that a full slice means that the text was as long or longer.
 #![tactic(auto)]
 
-ghost use Rattle.std.specs.Prelude.{◌≡◌, [], ◌∷◌, ◌≤◌, ◌<◌, ◌-◌, length};
+ghost use Rattle.std.specs.Prelude.{◌≡◌, [], ◌∷◌, ◌≤◌, ◌<◌, length};
 ghost use Rattle.text.specs.Text.{shown_byte, shown, glyph as glyphOf, numeral, Wrote};
 
 // One byte.
@@ -22,20 +22,16 @@ pub fn put_bytes(out: &mut [u8], at: usize, bytes: &[u8]) -> usize
     requires { at ≤ length out.old }
     ensures { Wrote out.old at out.new result bytes.now }
 {
-    let mut place = at;
-    let mut i: usize = 0;
-    while i < bytes.len() {
-        place = put(out, place, bytes[i]);
-        i += 1;
-    }
-    place
+    let fits = bytes.len().min(out.len() - at);
+    out[at..at + fits].copy_from_slice(&bytes[..fits]);
+    at + fits
 }
 
 // A byte of a name as it is shown.
 fn shown_byte(b: u8) -> u8
     ensures { result ≡ shown_byte b }
 {
-    if (b < 32) | (b == 127) { b'?' } else { b }
+    if b.is_ascii_control() { b'?' } else { b }
 }
 
 // A name, or a word of a command line, as it is shown: it may hold any byte, and a line end in it must not begin a line.
@@ -44,10 +40,8 @@ pub fn put_shown(out: &mut [u8], at: usize, name: &[u8]) -> usize
     ensures { Wrote out.old at out.new result (shown name.now) }
 {
     let mut place = at;
-    let mut i: usize = 0;
-    while i < name.len() {
-        place = put(out, place, shown_byte(name[i]));
-        i += 1;
+    for b in name {
+        place = put(out, place, shown_byte(*b));
     }
     place
 }
@@ -57,16 +51,10 @@ fn glyph(digit: u64) -> u8
     ensures { result ≡ glyphOf digit }
 {
     if digit < 10 {
-        48 + digit as u8
+        b'0' + digit as u8
     } else {
-        87 + digit as u8
+        b'a' - 10 + digit as u8
     }
-}
-
-fn less_one(n: usize) -> usize
-    ensures { result ≡ n - 1 }
-{
-    if n == 0 { 0 } else { n - 1 }
 }
 
 // A number in a base of 2 to 16, in no fewer digits than `least`.
@@ -77,6 +65,6 @@ pub fn put_numeral(out: &mut [u8], at: usize, n: u64, base: u64, least: usize) -
     if (n < base) & (least <= 1) {
         return put(out, at, glyph(n % base));
     }
-    let last = put_numeral(out, at, n / base, base, less_one(least));
+    let last = put_numeral(out, at, n / base, base, least.saturating_sub(1));
     put(out, last, glyph(n % base))
 }

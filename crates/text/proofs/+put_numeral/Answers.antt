@@ -9,8 +9,8 @@ pub returns-then-n-base : goal.returns-then-n-base
 returns-then-n-base t c = rw (numeral_short c.args.base c.requires.1 c.args.least c.args.n c.if-n-base.true, ← c.glyph.ensures) c.put.ensures
 
 pub put_numeral-last-requires : goal.put_numeral-last-requires
-put_numeral-last-requires t c = (omega (arith, c.less_one.ensures, shrinks c.args.base c.args.least c.args.n c.requires.1 c.if-n-base.false), c.requires)
+put_numeral-last-requires t c = (omega (arith, c.saturating_sub.ensures, shrinks c.args.base c.args.least c.args.n c.requires.1 c.if-n-base.false), c.requires)
 
 pub returns : goal.returns
-returns t c = rw (numeral_long c.args.base c.requires.1 c.args.least c.args.n c.if-n-base.false, ← c.less_one.ensures, ← c.glyph-2.ensures)
+returns t c = rw (numeral_long c.args.base c.requires.1 c.args.least c.args.n c.if-n-base.false, ← c.saturating_sub.ensures, ← c.glyph-2.ensures)
     (wrote_more c.put_numeral-last.ensures c.put-2.ensures)

@@ -1,7 +1,8 @@
--- `text::put_bytes` meets its contract. The bytes before place i are written.
+-- `text::put_bytes` meets its contract. As many bytes as fit are copied.
 -- Assumes nothing.
-use Rattle.text.proofs.Writing.{writes_next}
+use native.Mathlib.Omega.{arith}
+use Rattle.text.proofs.Writing.{wrote_copied}
 use Rattle.text.proofs.put_bytes.Goals as goal
 
-pub loop-i-preserved : goal.loop-i-preserved
-loop-i-preserved c = writes_next c.loop-i.invariant c.loop-i-test.true c.put-place.ensures
+pub returns : goal.returns
+returns c = wrote_copied _ _ _ _ _ _ c.requires c.min-fits.ensures (omega arith) c.copy_from_slice.ensures.after

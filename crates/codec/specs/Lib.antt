@@ -1,0 +1,2 @@
+-- What a column of values is.
+pub mod Columns

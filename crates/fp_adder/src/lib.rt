@@ -38,22 +38,24 @@ impl FloatAdder {
         }
     }
 
-    // The Rust's `f64::from`.
-    pub fn value(self) -> f64
-        ensures { result ≡ value_of (adder_of self) }
-    {
-        self.sum + self.correction
-    }
-
     // The area of a ring whose terms are added: what is below 0 is the rest of the sphere.
     pub fn closed(self) -> f64
         ensures { result ≡ closing (adder_of self) }
     {
-        let area = self.value();
+        let area = f64::from(self);
         if area < 0.0 {
-            return self.add(FOUR_PI).value();
+            return f64::from(self.add(FOUR_PI));
         }
         area
+    }
+}
+
+// The value of an adder: its sum with the correction.
+impl From<FloatAdder> for f64 {
+    ghost from_gives = { λ adder value. value ≡ value_of (adder_of adder) };
+
+    fn from(adder: FloatAdder) -> f64 {
+        adder.sum + adder.correction
     }
 }
 
@@ -61,8 +63,5 @@ impl FloatAdder {
 fn worked_example() -> f64
     ensures { result ≡ of_bits binary64 0x3FEFFFFFFFFFFFFF }
 {
-    FloatAdder::new()
-        .add(1.0)
-        .add(1.1102230246251565e-16)
-        .value()
+    f64::from(FloatAdder::new().add(1.0).add(1.1102230246251565e-16))
 }

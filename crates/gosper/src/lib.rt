@@ -13,7 +13,7 @@ ghost use Rattle.scope.specs.Walk.{step};
 ghost use Rattle.walk_levels.specs.Starts.{start_walk};
 ghost use Rattle.gosper.specs.Walking.{walk_of, turned, next_walk, gosper_at, moved_to, Walking, rest, Begins, Steps};
 
-use walk_levels::start::{edge_count, start_levels};
+use walk_levels::start::{Start, edge_count, start_levels};
 use walk_levels::{edge_direction, next_edge, next_position, set_digit, settle, walk_digit};
 
 #[derive(Clone, Copy)]
@@ -40,24 +40,24 @@ pub struct Stepped {
 }
 
 impl Gosper {
-    // The walk of a valid cell from its start, `past` sides on, with so many edges to give.
-    fn start(cell: u64, parent: usize, child: usize, past: u8, skips: bool, count: u64) -> Gosper
-        requires { (valid_cell cell ≡ true) × (parent ≡ resolution_of cell) × (parent ≤ child) × (child ≤ 15) × (past < 2) }
-        ensures { result ≡ gosper_at cell parent child skips count (start_walk past parent child) }
+    // The walk of a valid cell from its start, with so many edges to give.
+    fn start(start: Start, skips: bool, count: u64) -> Gosper
+        requires { (valid_cell start.cell ≡ true) × (start.parent ≡ resolution_of start.cell) × (start.parent ≤ start.child) × (start.child ≤ 15) × (start.past < 2) }
+        ensures { result ≡ gosper_at start.cell start.parent start.child skips count (start_walk start.past start.parent start.child) }
     {
-        let mut positions: [u8; 16] = [0; 16];
-        let scratchpad = start_levels(&mut positions, cell, parent, child, past);
-        let finest = positions[child];
-        positions[child] = 0;
+        let mut positions = [0; 16];
+        let scratchpad = start_levels(&mut positions, start);
+        let finest = positions[start.child];
+        positions[start.child] = 0;
         Gosper {
-            scratchpad: scratchpad,
-            count: count,
-            positions: positions,
-            finest: finest,
-            facing: past,
-            parent: parent,
-            child: child,
-            skips: skips,
+            scratchpad,
+            count,
+            positions,
+            finest,
+            facing: start.past,
+            parent: start.parent,
+            child: start.child,
+            skips,
         }
     }
 
@@ -67,18 +67,28 @@ impl Gosper {
         ensures { Begins cell target result }
     {
         let parent = index::resolution(cell);
+        let first = Start {
+            cell,
+            parent,
+            child: target,
+            past: 0,
+        };
         if target < parent {
-            return Gosper::start(cell, parent, parent, 0, false, 0);
+            let none = Start {
+                child: parent,
+                ..first
+            };
+            return Gosper::start(none, false, 0);
         }
         if !index::is_pentagon(cell) {
             let count = edge_count(6, target - parent);
-            return Gosper::start(cell, parent, target, 0, false, count);
+            return Gosper::start(first, false, count);
         }
         let count = edge_count(5, target - parent);
         if parent < target {
-            return Gosper::start(cell, parent, target, 1, false, count);
+            return Gosper::start(Start { past: 1, ..first }, false, count);
         }
-        Gosper::start(cell, parent, target, 0, true, count)
+        Gosper::start(first, true, count)
     }
 
     // The edge position goes on, after the finest level.
@@ -137,7 +147,7 @@ impl Gosper {
         }
     }
 
-    // The next edge, and the walk after it.
+    // The next edge, and the walk after it. An `Iterator` would keep its state: this one is handed back, so that a walk stays a value.
     pub fn step(mut self) -> Stepped
         requires { Walking self × (0 < length (rest self)) }
         ensures { Steps self result }
@@ -146,10 +156,7 @@ impl Gosper {
         self = self.go_on();
         self.count -= 1;
         self.skips = false;
-        Stepped {
-            edge: edge,
-            walk: self,
-        }
+        Stepped { edge, walk: self }
     }
 
     // How many edges are left.

@@ -48,14 +48,7 @@ const PENTAGON_BASE_CELLS: [u64; 12] = [4, 14, 24, 38, 49, 58, 63, 72, 83, 97, 1
 fn is_pentagon_base(b: u64) -> bool
     ensures { result ≡ member b pentagon_base_cells }
 {
-    let mut i: usize = 0;
-    while i < 12 {
-        if PENTAGON_BASE_CELLS[i] == b {
-            return true;
-        }
-        i += 1;
-    }
-    false
+    PENTAGON_BASE_CELLS.contains(&b)
 }
 
 // Few numbers have only zeros up to their resolution, so this is asked first.

@@ -1,10 +1,10 @@
 -- What a loop over a walk keeps: the walk goes on, and the digest so far with the edges left gives the outline's.
 -- Assumes nothing.
 use Prim.Native.Nat.{ℕ, ◌+◌, ◌*◌, ◌%◌, ◌<◌}
-use mathlib.Core.Path.{◌≡◌, refl, sym, ◌∙◌, ap}
-use mathlib.Core.List.{List, [], ◌∷◌}
+use mathlib.Core.Path.{◌≡◌, sym, ◌∙◌, ap}
 use native.Mathlib.Omega.{arith}
 use lib.ListN.{length}
+use Rattle.std.proofs.lemmas.List.{nil_from_length}
 use Rattle.scope.specs.Walk.{outline}
 use Rattle.gosper.specs.declared.Gosper.{Gosper}
 use Rattle.gosper.specs.declared.Stepped.{Stepped}
@@ -23,15 +23,6 @@ pub sum_step : {x t sum : ℕ} {g : Gosper} {s : Stepped} → Summed x t g sum �
 unfolding digest_from
 sum_step {sum = sum} S T = record { walking = T.walking; digest = sym (ap (digest_from sum) T.rest) ∙ S.digest; low = omega arith }
 
--- a list of no members
-none : (l : List ℕ) → length l ≡ 0 → l ≡ []
-none [] e = refl
-none (x ∷ l) e = absurd (omega arith)
-
 pub sum_end : {x t sum : ℕ} {g : Gosper} → Summed x t g sum → length (rest g) ≡ 0 → sum ≡ digest_from 0 (outline x t)
 unfolding digest_from
-sum_end {sum = sum} {g} S e = sym (ap (digest_from sum) (none (rest g) e)) ∙ S.digest
-
--- one edge fewer is left
-pub one_fewer : {g : Gosper} {s : Stepped} → Steps g s → length (rest s.walk) < length (rest g)
-one_fewer T = omega (arith, ap length T.rest)
+sum_end {sum = sum} {g} S e = sym (ap (digest_from sum) (nil_from_length (rest g) e)) ∙ S.digest

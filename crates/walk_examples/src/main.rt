@@ -11,48 +11,43 @@ use gosper::Gosper;
 
 const STDOUT_FILENO: i32 = 1;
 
-// T1 to T6; delta 7, 8 and 10; pentagons at several deltas; hexagons under pentagons and elsewhere.
-const CELLS: [u64; 35] = [
-    0x0800_1fff_ffff_ffff,
-    0x0800_9fff_ffff_ffff,
-    0x0800_1fff_ffff_ffff,
-    0x0800_9fff_ffff_ffff,
-    0x0800_1fff_ffff_ffff,
-    0x0810_03ff_ffff_ffff,
-    0x0821_fb7f_ffff_ffff,
-    0x0800_1fff_ffff_ffff,
-    0x0800_1fff_ffff_ffff,
-    0x0800_9fff_ffff_ffff,
-    0x0800_9fff_ffff_ffff,
-    0x0800_9fff_ffff_ffff,
-    0x0800_9fff_ffff_ffff,
-    0x0800_9fff_ffff_ffff,
-    0x0800_9fff_ffff_ffff,
-    0x0800_9fff_ffff_ffff,
-    0x0811_c3ff_ffff_ffff,
-    0x0823_007f_ffff_ffff,
-    0x0834_c00f_ffff_ffff,
-    0x084e_a001_ffff_ffff,
-    0x08ed_6000_0000_0007,
-    0x08fc_2000_0000_0000,
-    0x0820_817f_ffff_ffff,
-    0x0810_8fff_ffff_ffff,
-    0x080f_3fff_ffff_ffff,
-    0x0812_9bff_ffff_ffff,
-    0x0832_9acf_ffff_ffff,
-    0x0869_2539_77ff_ffff,
-    0x084c_8085_ffff_ffff,
-    0x0817_f7ff_ffff_ffff,
-    0x0890_2924_924b_ffff,
-    0x08c6_f041_0410_41ff,
-    0x08f1_2492_4924_9249,
-    0x0834_2f1f_ffff_ffff,
-    0x0827_897f_ffff_ffff,
-];
-
-const TARGETS: [usize; 35] = [
-    0, 0, 1, 1, 2, 0, 9, 8, 10, 2, 3, 4, 5, 6, 7, 8, 4, 5, 3, 9, 15, 15, 5, 4, 3, 6, 7, 9, 11, 8,
-    12, 15, 15, 3, 9,
+// Cells and targets: T1 to T6; delta 7, 8 and 10; pentagons at several deltas; hexagons under pentagons and elsewhere.
+const OUTLINES: [(u64, usize); 35] = [
+    (0x0800_1fff_ffff_ffff, 0),
+    (0x0800_9fff_ffff_ffff, 0),
+    (0x0800_1fff_ffff_ffff, 1),
+    (0x0800_9fff_ffff_ffff, 1),
+    (0x0800_1fff_ffff_ffff, 2),
+    (0x0810_03ff_ffff_ffff, 0),
+    (0x0821_fb7f_ffff_ffff, 9),
+    (0x0800_1fff_ffff_ffff, 8),
+    (0x0800_1fff_ffff_ffff, 10),
+    (0x0800_9fff_ffff_ffff, 2),
+    (0x0800_9fff_ffff_ffff, 3),
+    (0x0800_9fff_ffff_ffff, 4),
+    (0x0800_9fff_ffff_ffff, 5),
+    (0x0800_9fff_ffff_ffff, 6),
+    (0x0800_9fff_ffff_ffff, 7),
+    (0x0800_9fff_ffff_ffff, 8),
+    (0x0811_c3ff_ffff_ffff, 4),
+    (0x0823_007f_ffff_ffff, 5),
+    (0x0834_c00f_ffff_ffff, 3),
+    (0x084e_a001_ffff_ffff, 9),
+    (0x08ed_6000_0000_0007, 15),
+    (0x08fc_2000_0000_0000, 15),
+    (0x0820_817f_ffff_ffff, 5),
+    (0x0810_8fff_ffff_ffff, 4),
+    (0x080f_3fff_ffff_ffff, 3),
+    (0x0812_9bff_ffff_ffff, 6),
+    (0x0832_9acf_ffff_ffff, 7),
+    (0x0869_2539_77ff_ffff, 9),
+    (0x084c_8085_ffff_ffff, 11),
+    (0x0817_f7ff_ffff_ffff, 8),
+    (0x0890_2924_924b_ffff, 12),
+    (0x08c6_f041_0410_41ff, 15),
+    (0x08f1_2492_4924_9249, 15),
+    (0x0834_2f1f_ffff_ffff, 3),
+    (0x0827_897f_ffff_ffff, 9),
 ];
 
 // A digest of an outline's edges, in their order.
@@ -75,8 +70,7 @@ fn print_first(cell: u64, target: usize)
     requires { (valid_cell cell ≡ true) × (target ≤ 15) }
 {
     let mut walk = Gosper::new(cell, target);
-    let mut shown: usize = 0;
-    while shown < 6 {
+    for _ in 0..6 {
         if walk.len() == 0 {
             return;
         }
@@ -84,7 +78,6 @@ fn print_first(cell: u64, target: usize)
         io::write_all(STDOUT_FILENO, b" ");
         io::print_hex(STDOUT_FILENO, stepped.edge, 16);
         walk = stepped.walk;
-        shown += 1;
     }
 }
 
@@ -104,19 +97,13 @@ fn print_valid(cell: u64, target: usize)
 
 // A number that is no valid cell, or a target past 15, prints nothing.
 fn print_outline(cell: u64, target: usize) {
-    if !index::is_cell(cell) {
-        return;
+    if index::is_cell(cell) && target <= 15 {
+        print_valid(cell, target);
     }
-    if 15 < target {
-        return;
-    }
-    print_valid(cell, target);
 }
 
 fn main() {
-    let mut i: usize = 0;
-    while i < 35 {
-        print_outline(CELLS[i], TARGETS[i]);
-        i += 1;
+    for (cell, target) in OUTLINES {
+        print_outline(cell, target);
     }
 }

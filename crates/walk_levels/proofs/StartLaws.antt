@@ -1,7 +1,7 @@
 -- The start of a walk: its positions and edge level by level, and that what is left there is the outline.
 --     start_own, start_deeper, edge_deeper    at the cell's resolution, and one level deeper
 --     start-first, start_sixth                the walks of scope that it is: the first one, and that after a sixth of its steps
---     count_more, count_le                    the count, three times as many each level
+--     three_le, count_le                      3 to the depth, and the count, are small
 --     starts_own, starts_deeper               the loop over the levels
 -- Assumes nothing.
 use mathlib.Core.Path.{◌≡◌, refl, ◌∙◌, ap, sym}
@@ -9,8 +9,7 @@ use mathlib.Core.Bool.{true, false, ◌&&◌, cond}
 use mathlib.Core.List.{List}
 use mathlib.Core.Logic.{⊎_elim}
 use Prim.Native.Nat.{ℕ, ◌+◌, ◌-◌, ◌*◌, ◌%◌, ◌^◌, ◌<◌, ◌≤◌}
-use native.Mathlib.Nat.{mul-le-mul, mul_comm, mul_assoc, pow-suc}
-use native.Mathlib.Numerals.{add-one}
+use native.Mathlib.Nat.{mul-le-mul}
 use native.Mathlib.Omega.{arith}
 use lib.Dec.{leb, ltb, lit<}
 use lib.ListN.{set, replicate}
@@ -108,9 +107,6 @@ three_le i h = leb-true _ _ (passes_at (λ k. leb (3 ^ k) 14348907) 16 refl i (o
 
 pub count_le : (s i : ℕ) → s ≤ 6 → i ≤ 15 → s * 3 ^ i ≤ 6 * 14348907
 count_le s i h k = mul-le-mul h (three_le i k)
-
-pub count_more : (s i : ℕ) → 3 * (s * 3 ^ i) ≡ s * 3 ^ (i + 1)
-count_more s i = rw (add-one i, pow-suc 3 i, ← mul_assoc s (3 ^ i) 3) (mul_comm 3 (s * 3 ^ i))
 
 -- ---- the loop over the levels
 

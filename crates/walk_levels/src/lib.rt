@@ -15,70 +15,59 @@ const WALK_DIGIT: [u8; 18] = [1, 1, 1, 5, 5, 5, 4, 4, 4, 6, 6, 6, 2, 2, 2, 3, 3,
 // H3 edge direction at each edge position, counter-clockwise.
 const EDGE_DIR: [u8; 6] = [3, 1, 5, 4, 6, 2];
 
-fn wide(x: u8) -> u64
-    ensures { result ≡ x }
-{
-    x as u64
-}
-
 pub fn walk_digit(position: u8) -> u64
     requires { position < 18 }
     ensures { result ≡ walk_digit position }
 {
-    let i = position as usize;
-    wide(WALK_DIGIT[i])
+    u64::from(WALK_DIGIT[usize::from(position)])
 }
 
 pub fn edge_direction(facing: u8) -> u64
     requires { facing < 6 }
     ensures { result ≡ edge_direction facing }
 {
-    let i = facing as usize;
-    wide(EDGE_DIR[i])
+    u64::from(EDGE_DIR[usize::from(facing)])
 }
 
-// Where the parent's digit changed, back 6 around the 18 positions.
-fn back_six(position: u8, changed: bool) -> u8
-    requires { position < 18 }
-    ensures { result ≡ (position + cond changed 12 0) % 18 }
+// Back `BACK` around `COUNT` places, where what leads has changed.
+fn set_back<const COUNT: u8, const BACK: u8>(place: u8, changed: bool) -> u8
+    requires { (place < COUNT) × (BACK ≤ COUNT) }
+    ensures { result ≡ (place + cond changed (COUNT - BACK) 0) % COUNT }
 {
     if changed {
-        if position < 6 {
-            position + 12
+        if place < BACK {
+            place + (COUNT - BACK)
         } else {
-            position - 6
+            place - BACK
         }
     } else {
-        position
+        place
     }
 }
 
+// The next of `COUNT` places, after that.
+fn next_around<const COUNT: u8, const BACK: u8>(place: u8, changed: bool) -> u8
+    requires { (place < COUNT) × (BACK ≤ COUNT) }
+    ensures { result ≡ (place + cond changed (COUNT - BACK) 0 + 1) % COUNT }
+{
+    let from = set_back::<COUNT, BACK>(place, changed);
+    if from == COUNT - 1 { 0 } else { from + 1 }
+}
+
+// Where the parent's digit changed, 6 back around the 18 positions first.
 pub fn next_position(position: u8, changed: bool) -> u8
     requires { position < 18 }
     ensures { result ≡ next_position position changed }
 {
-    let from = back_six(position, changed);
-    if from == 17 { 0 } else { from + 1 }
+    next_around::<18, 6>(position, changed)
 }
 
-// Where the finest digit changed, back 2 around the 6 edges.
-fn back_two(facing: u8, changed: bool) -> u8
-    requires { facing < 6 }
-    ensures { result ≡ (facing + cond changed 4 0) % 6 }
-{
-    if changed {
-        if facing < 2 { facing + 4 } else { facing - 2 }
-    } else {
-        facing
-    }
-}
-
+// Where the finest digit changed, 2 back around the 6 edges first.
 pub fn next_edge(facing: u8, changed: bool) -> u8
     requires { facing < 6 }
     ensures { result ≡ next_edge_position facing changed }
 {
-    let from = back_two(facing, changed);
-    if from == 5 { 0 } else { from + 1 }
+    next_around::<6, 2>(facing, changed)
 }
 
 // The remainder by 3 of each of the 18 positions, two bits each, packed into one number. It has 3 for the
@@ -117,24 +106,22 @@ fn top_level(positions: &[u8; 16], parent: usize, last: usize) -> usize
     requires { (parent < last) × (last ≤ 15) × Fine positions.now }
     ensures { Top parent last positions.now result }
 {
-    let mut r = last;
-    while parent + 1 < r {
+    for r in (parent + 2..last + 1).rev() {
         if !need_to_move_to_next(positions[r], r) {
             return r;
         }
-        r -= 1;
     }
-    r
+    parent + 1
 }
 
 // The level r moves, after its parent level, whose digit changed or not.
-fn move_level(positions: &mut [u8; 16], scratchpad: u64, r: usize, changed: bool) -> Written
+fn move_level(positions: &mut [u8; 16], r: usize, parent: Written) -> Written
     requires { (r ≤ 15) × Fine positions.old }
-    ensures { MovesLevel r scratchpad changed positions.old positions.new result }
+    ensures { MovesLevel r parent.scratchpad parent.changed positions.old positions.new result }
 {
-    let q = next_position(positions[r], changed);
+    let q = next_position(positions[r], parent.changed);
     positions[r] = q;
-    set_digit(scratchpad, r, walk_digit(q))
+    set_digit(parent.scratchpad, r, walk_digit(q))
 }
 
 // The level `last` moves, and before it the levels over it that must: from the coarsest on, where the Rust has a stack.
@@ -142,18 +129,17 @@ fn move_levels(positions: &mut [u8; 16], scratchpad: u64, parent: usize, last: u
     requires { (parent < last) × Levels parent last scratchpad positions.old }
     ensures { Leaves parent last scratchpad (move parent last positions.old) positions.new result }
 {
-    let mut r = top_level(positions, parent, last);
-    // Mostly one level moves.
-    if r == last {
-        return move_level(positions, scratchpad, r, false);
-    }
+    let top = top_level(positions, parent, last);
     let mut moved = Written {
-        scratchpad: scratchpad,
+        scratchpad,
         changed: false,
     };
-    while r <= last {
-        moved = move_level(positions, moved.scratchpad, r, moved.changed);
-        r += 1;
+    // Mostly one level moves, and the loop would cost a tenth of the walk.
+    if top == last {
+        return move_level(positions, top, moved);
+    }
+    for r in top..last + 1 {
+        moved = move_level(positions, r, moved);
     }
     moved
 }
@@ -169,13 +155,11 @@ pub fn settle(
     requires { (parent < child) × (child ≤ 15) × (finest < 18) × Levels parent (child - 1) scratchpad positions.old }
     ensures { Leaves parent (child - 1) scratchpad (over_finest parent child finest positions.old) positions.new result }
 {
-    if parent + 1 < child {
-        if need_to_move_to_next(finest, child) {
-            return move_levels(positions, scratchpad, parent, child - 1);
-        }
+    if parent + 1 < child && need_to_move_to_next(finest, child) {
+        return move_levels(positions, scratchpad, parent, child - 1);
     }
     Written {
-        scratchpad: scratchpad,
+        scratchpad,
         changed: false,
     }
 }

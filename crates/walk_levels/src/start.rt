@@ -18,22 +18,24 @@ fn start_position(parent: usize, r: usize, past: u8) -> u8
     (16 + 3 * past) % 18
 }
 
+// Where a walk starts: the cell, its resolution and the target, and how many sides on from the first walk.
+#[derive(Clone, Copy)]
+pub struct Start {
+    pub cell: u64,
+    pub parent: usize,
+    pub child: usize,
+    pub past: u8,
+}
+
 // Every level at its start, and the edge there: the walk goes a level deeper each turn.
-pub fn start_levels(
-    positions: &mut [u8; 16],
-    cell: u64,
-    parent: usize,
-    child: usize,
-    past: u8,
-) -> u64
-    requires { StartAsks positions.old cell parent child past }
-    ensures { Starts positions.new cell parent child past result }
+pub fn start_levels(positions: &mut [u8; 16], start: Start) -> u64
+    requires { StartAsks positions.old start.cell start.parent start.child start.past }
+    ensures { Starts positions.new start.cell start.parent start.child start.past result }
 {
-    let mut scratchpad = cell + ((8 + edge_direction(past)) << 56);
-    let mut r = parent;
-    while r < child {
-        r += 1;
-        let p = start_position(parent, r, past);
+    let mut scratchpad = start.cell + ((8 + edge_direction(start.past)) << 56);
+    for reached in start.parent..start.child {
+        let r = reached + 1;
+        let p = start_position(start.parent, r, start.past);
         positions[r] = p;
         let written = set_digit(scratchpad, r, walk_digit(p));
         scratchpad = written.scratchpad + 0x0010_0000_0000_0000;
@@ -46,11 +48,5 @@ pub fn edge_count(sides: u64, delta: usize) -> u64
     requires { (sides ≤ 6) × (delta ≤ 15) }
     ensures { result ≡ sides * 3 ^ delta }
 {
-    let mut n = sides;
-    let mut i: usize = 0;
-    while i < delta {
-        n = 3 * n;
-        i += 1;
-    }
-    n
+    sides * 3u64.pow(delta as u32)
 }

@@ -1,13 +1,12 @@
 -- What the loop over a walk keeps: the walk goes on, and the number so far with the edges left gives the outline's; and the test in front.
 -- Assumes nothing.
-use Prim.Native.Nat.{ℕ, ◌<◌, ◌≤◌}
-use mathlib.Core.Path.{◌≡◌, refl, sym, ◌∙◌, ap}
+use Prim.Native.Nat.{ℕ, ◌≤◌}
+use mathlib.Core.Path.{◌≡◌, sym, ◌∙◌, ap}
 use mathlib.Core.Bool.{Bool, true, false, not, ◌&&◌}
-use mathlib.Core.List.{List, [], ◌∷◌}
-use native.Mathlib.Omega.{arith}
 use lib.Bits.{bit_xor}
 use lib.Dec.{leb}
 use lib.ListN.{length}
+use Rattle.std.proofs.lemmas.List.{nil_from_length}
 use borrow.Author.Tests.{not-true, not-false, leb-true}
 use Rattle.scope.specs.Cells.{valid_cell}
 use Rattle.scope.specs.Walk.{outline}
@@ -28,18 +27,9 @@ pub mixing_step : {x t m : ℕ} {g : Gosper} {s : Stepped} → Mixing x t g m �
 unfolding mix_from
 mixing_step {m = m} M T = record { walking = T.walking; edges = sym (ap (mix_from m) T.rest) ∙ M.edges }
 
--- a list of no members
-none : (l : List ℕ) → length l ≡ 0 → l ≡ []
-none [] e = refl
-none (x ∷ l) e = absurd (omega arith)
-
 pub mixing_end : {x t m : ℕ} {g : Gosper} → Mixing x t g m → length (rest g) ≡ 0 → m ≡ mix_from 0 (outline x t)
 unfolding mix_from
-mixing_end {m = m} {g} M e = sym (ap (mix_from m) (none (rest g) e)) ∙ M.edges
-
--- one edge fewer is left
-pub one_fewer : {g : Gosper} {s : Stepped} → Steps g s → length (rest s.walk) < length (rest g)
-one_fewer T = omega (arith, ap length T.rest)
+mixing_end {m = m} {g} M e = sym (ap (mix_from m) (nil_from_length (rest g) e)) ∙ M.edges
 
 -- ---- the test in front
 

@@ -18,7 +18,7 @@ pub fn zone_walk(cell: u64, target: usize) -> u64
     let mut edges: u64 = 0;
     while 0 < walk.len() {
         let stepped = walk.step();
-        edges = edges ^ stepped.edge;
+        edges ^= stepped.edge;
         walk = stepped.walk;
     }
     edges

@@ -1,11 +1,7 @@
 -- `walk_examples::digest` meets its contract. The loop keeps `Summed`, and each turn leaves one edge fewer.
 -- Assumes nothing.
-use Prim.Native.Nat.{ℕ, ◌<◌}
-use mathlib.Core.Path.{◌≡◌}
 use native.Mathlib.Omega.{arith}
-use lib.ListN.{length}
-use Rattle.gosper.specs.Walking.{rest}
-use Rattle.walk_examples.proofs.Walked.{Summed, sum_start, sum_step, sum_end, one_fewer}
+use Rattle.walk_examples.proofs.Walked.{sum_step, sum_end}
 use Rattle.walk_examples.proofs.digest.Goals as goal
 
 pub loop-walk-preserved : goal.loop-walk-preserved

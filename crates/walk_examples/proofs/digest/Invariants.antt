@@ -1,10 +1,7 @@
 -- The loop of `walk_examples::digest`.
-use Prim.Native.Nat.{ℕ, ◌<◌}
-use mathlib.Core.Path.{◌≡◌}
-use native.Mathlib.Omega.{arith}
 use lib.ListN.{length}
 use Rattle.gosper.specs.Walking.{rest}
-use Rattle.walk_examples.proofs.Walked.{Summed, sum_start, sum_step, sum_end, one_fewer}
+use Rattle.walk_examples.proofs.Walked.{Summed}
 use Rattle.walk_examples.proofs.digest.Given as goal
 
 abbrev pub invariant-loop-walk : goal.invariant-loop-walk

@@ -1,16 +1,11 @@
--- `walk_levels::start::edge_count` meets its contract.
+-- `walk_levels::start::edge_count` meets its contract: 3^15 is small.
 -- Assumes nothing.
-use mathlib.Core.Path.{◌∙◌, ap}
-use Prim.Native.Nat.{ℕ, ◌*◌}
 use native.Mathlib.Omega.{arith}
-use Rattle.walk_levels.proofs.StartLaws.{count_le, count_more}
+use Rattle.walk_levels.proofs.StartLaws.{three_le, count_le}
 use Rattle.walk_levels.proofs.start.edge_count.Goals as goal
 
-pub overflow_mul-n : goal.overflow_mul-n
-overflow_mul-n c = let l = c.loop-i in
-    let i = l.invariant.1 in
-    omega (arith, count_le c.args.sides l.i c.requires.0 (omega arith))
+pub pow-requires : goal.pow-requires
+pow-requires c = omega (arith, three_le c.args.delta c.requires.1)
 
-pub loop-i-preserved : goal.loop-i-preserved
-loop-i-preserved c = let l = c.loop-i in
-    (omega arith, ap (λ (m : ℕ). 3 * m) l.invariant.1 ∙ count_more _ l.i)
+pub overflow_mul-result : goal.overflow_mul-result
+overflow_mul-result c = rw c.pow.ensures (omega (arith, count_le c.args.sides c.args.delta c.requires.0 c.requires.1))

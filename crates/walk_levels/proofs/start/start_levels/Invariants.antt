@@ -1,10 +1,6 @@
--- The loop of `walk_levels::start::start_levels`.
-use Prim.Native.Nat.{◌-◌, ◌≤◌}
+-- The loop of `walk_levels::start::start_levels`: the invariant is its promise, at the level reached.
 use Rattle.walk_levels.specs.Starts.{Starts}
 use Rattle.walk_levels.proofs.start.start_levels.Given as goal
 
-abbrev pub invariant-loop-r : goal.invariant-loop-r
-invariant-loop-r l = (l.parent ≤ l.r) × (l.r ≤ l.child) × Starts l.positions l.cell l.parent l.r l.past l.scratchpad
-
-abbrev pub decreases-loop-r : goal.decreases-loop-r
-decreases-loop-r l = l.child - l.r
+abbrev pub invariant-loop-reached : goal.invariant-loop-reached
+invariant-loop-reached l = Starts l.positions l.start.cell l.start.parent l.reached l.start.past l.scratchpad

@@ -2,5 +2,5 @@
 pub mod Places
 pub mod Ranks
 pub mod Blocks
-pub mod Narrowing
+pub mod Fronts
 pub mod Lookups

@@ -21,13 +21,6 @@ use Rattle.cell_lookup.proofs.Places.{place_is}
 use Rattle.cell_lookup.proofs.Ranks.{rank_key, rank_index}
 use Rattle.cell_lookup.proofs.Blocks.{same_key, under_below, between, under_trans}
 
--- once a key is not below, no later one is
-pub keys_fall : {part a : List ℕ} → Ascending part a → (x p q : ℕ) → p ≤ q → q < length part → key_below part a x q ≡ true → key_below part a x p ≡ true
-keys_fall {part} {a} A x p q h l e =
-    let o = A.order p q h l in
-    let t = ltb-true (key_of (at part (at a q))) (key_of x) e in
-    lt-ltb (key_of (at part (at a p))) (key_of x) (omega arith)
-
 module _ {part a : List ℕ} (O : Ordered part a) where
   small : (p : ℕ) → p < length part → at a p < 2 ^ 32
   small p h = let b = O.sorted.perm.below p h in omega (arith, O.few)

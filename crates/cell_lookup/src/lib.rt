@@ -2,6 +2,7 @@
 #![tactic(auto)]
 
 ghost use Rattle.std.specs.Prelude.{◌≡◌, length};
+ghost use Rattle.scope.specs.Answers.{found_below};
 ghost use Rattle.scope.specs.Lists.{at, first_bad, passes};
 ghost use Rattle.scope.specs.CellLists.{differs, not_under, not_over};
 ghost use Rattle.cell_lookup.specs.Order.{key_of};
@@ -14,42 +15,21 @@ use slices::get32;
 pub fn is_unheld(held: &[u64], x: u64) -> bool
     ensures { result ≡ passes (differs held.now x) (length held.now) }
 {
-    let mut other: usize = 0;
-    while other < held.len() {
-        if held[other] == x {
-            return false;
-        }
-        other += 1;
-    }
-    true
+    !held.contains(&x)
 }
 
 // x lies under none of the held cells.
 pub fn lies_under_none(held: &[u64], x: u64) -> bool
     ensures { result ≡ passes (not_under held.now x) (length held.now) }
 {
-    let mut over: usize = 0;
-    while over < held.len() {
-        if lies_under(x, held[over]) {
-            return false;
-        }
-        over += 1;
-    }
-    true
+    !held.iter().any(|&over| lies_under(x, over))
 }
 
-// The lowest held cell that lies under x, or their number.
-pub fn first_under(held: &[u64], x: u64) -> usize
-    ensures { result ≡ first_bad (not_over held.now x) (length held.now) }
+// The place of the lowest held cell that lies under x.
+pub fn first_under(held: &[u64], x: u64) -> Option<usize>
+    ensures { result ≡ found_below (length held.now) (first_bad (not_over held.now x) (length held.now)) }
 {
-    let mut under: usize = 0;
-    while under < held.len() {
-        if lies_under(held[under], x) {
-            return under;
-        }
-        under += 1;
-    }
-    under
+    held.iter().position(|&under| lies_under(under, x))
 }
 
 // A cell's base cell and digits. Its descendants stand right before it, and no other valid cell has the same:
@@ -60,31 +40,19 @@ pub fn key(x: u64) -> u64
     x % 0x10_0000_0000_0000
 }
 
-// The cell at place `p` stands before x.
-fn key_below(order: &[u32], part: &[u64], x: u64, p: usize) -> bool
-    requires { PlaceIn part.now order.now p }
-    ensures { result ≡ key_below part.now order.now x p }
+// The key of cell `j` of the part, 0 where there is none.
+fn key_at(part: &[u64], j: u32) -> u64
+    ensures { result ≡ key_of (at part.now j) }
 {
-    let j = get32(order, p);
-    key(part[j]) < key(x)
+    part.get(j as usize).map_or(0, |&cell| key(cell))
 }
 
-// The first place whose cell does not stand before x, by halving; the number of cells where there is none.
+// The first place whose cell does not stand before x; the number of cells where there is none.
 fn first_from(order: &[u32], part: &[u64], x: u64) -> usize
     requires { Ascending part.now order.now }
     ensures { result ≡ first_bad (key_below part.now order.now x) (length part.now) }
 {
-    let mut lo: usize = 0;
-    let mut hi = part.len();
-    while lo < hi {
-        let mid = lo + (hi - lo) / 2;
-        if key_below(order, part, x, mid) {
-            lo = mid + 1;
-        } else {
-            hi = mid;
-        }
-    }
-    lo
+    order[..part.len()].partition_point(|&j| key_at(part, j) < key(x))
 }
 
 // None of the first `count` cells of the part is x. Of equal cells the one with the lowest index stands first.
@@ -113,7 +81,8 @@ pub fn is_clear(raised: &[u32], part: &[u64], x: u64) -> bool
     !lies_under(x, part[j])
 }
 
-// The index at place `p` or, where its cell lies under that of `top`, `top`.
+// The index at place `p` or, where its cell lies under that of `top`, `top`. A `top` that is no index stands for none: an option would be no
+// plainer, for the caller stores each answer and hands the same number on.
 pub fn top_over(order: &[u32], part: &[u64], p: usize, top: usize) -> usize
     requires { PlaceIn part.now order.now p }
     ensures { result ≡ top_over part.now (at order.now p) top }

@@ -1,9 +1,8 @@
--- Passes over a column with no early end, and what they tell of the whole table.
---     Passing, passing_start, -more, -done     the loop: `kept` says that the test holds at every row so far
+-- What the passes over the columns tell of the whole table.
 --     columns_from      the passes over the columns, one by one
 --     none_bad          where every column passes, every row does
 -- Assumes nothing.
-use Prim.Native.Nat.{ℕ, ◌+◌, ◌-◌, ◌*◌, ◌/◌, ◌^◌, ◌<◌, ◌≤◌}
+use Prim.Native.Nat.{ℕ, ◌-◌, ◌*◌, ◌/◌, ◌^◌, ◌<◌, ◌≤◌}
 use mathlib.Core.Path.{◌≡◌, sym, ◌∙◌, ap}
 use mathlib.Core.Bool.{Bool, true, ◌&&◌}
 use mathlib.Core.List.{List}
@@ -16,41 +15,12 @@ use borrow.Author.Tests.{eqb-true, le-leb, leb-true}
 use Rattle.scope.specs.Lists.{at, all, passes}
 use Rattle.scope.specs.Cells.{resolution_of, base_cell, digit_fits, valid_edge}
 use Rattle.scope.specs.Table.{Table, row_count, target_of, has_target, ascends, paired, row_good}
-use Rattle.scope.proofs.Tests.{same, and_left, and_right, and_both}
+use Rattle.scope.proofs.Tests.{and_left, and_right}
 use Rattle.scope.proofs.Scan.{passes_at, passes_all}
 use Rattle.scope.proofs.Tables.{Ascending, ascending}
 use Rattle.scope.proofs.Edges.{valid_edge_is}
 use Rattle.index.proofs.Digits.{digits_fit}
 use Rattle.edge_table.specs.Straight.{fields_kept, ones, sevens, sevens_kept, EdgesKept, side_kept, finite_at, Columns, NoneBad}
-
--- ---- the loop
-
-pub record Passing (ok : ℕ → Bool) (n i : ℕ) (kept : Bool) : Type 0 where
-  pub within : i ≤ n
-  pub so_far : kept ≡ passes ok i
-
-pub passing_start : {ok : ℕ → Bool} {n : ℕ} → Passing ok n 0 true
-passing_start {ok} = record { within = omega arith; so_far = sym (passes_all ok 0 (λ k h. absurd (omega arith))) }
-
-passes_step : (ok : ℕ → Bool) (i : ℕ) → (passes ok i && ok i) ≡ passes ok (i + 1)
-passes_step ok i = same _ _
-    (λ e. passes_all ok (i + 1) (λ k h. ⊎_elim
-    (λ (q : k ≡ i). ap ok q ∙ and_right (passes ok i) (ok i) e)
-    (λ (q : k < i). passes_at ok i (and_left (passes ok i) (ok i) e) k q)
-    (eq-or-lt_of_le (upto h))))
-    (λ e. and_both (passes ok i) (ok i)
-    (passes_all ok i (λ k h. passes_at ok (i + 1) e k (omega arith)))
-    (passes_at ok (i + 1) e i (omega arith)))
-  where
-    upto : {k : ℕ} → k < i + 1 → k ≤ i
-    upto h = omega arith
-
-module _ {ok : ℕ → Bool} {n i : ℕ} {kept : Bool} (P : Passing ok n i kept) where
-  pub passing_more : i < n → {b : Bool} → b ≡ ok i → Passing ok n (i + 1) (kept && b)
-  passing_more h e = record { within = omega arith; so_far = rw (P.so_far, e) (passes_step ok i) }
-
-  pub passing_done : n ≤ i → kept ≡ passes ok n
-  passing_done h = let e : i ≡ n = omega (arith, P.within) in P.so_far ∙ ap (passes ok) e
 
 -- ---- digits
 

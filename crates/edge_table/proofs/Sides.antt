@@ -1,7 +1,7 @@
 -- Edge 1 of a pentagon is looked for by its fields above the digits, base cell by base cell: it has only zeros up to its resolution, and so
 -- has the first row with these fields.
 --     side_none, side_past, side_first     no row with these fields is edge 1 of a pentagon: there is none, none so high, or the first is not
---     Sided, sided_start, -more, -done     no row with a base cell so far is
+--     sides_done     where no base cell has such a row, none is
 -- Assumes nothing.
 use Prim.Native.Nat.{ℕ, ◌+◌, ◌*◌, ◌/◌, ◌%◌, ◌^◌, ◌<◌, ◌≤◌}
 use mathlib.Core.Path.{◌≡◌, sym, ◌∙◌, ap}
@@ -77,33 +77,17 @@ module _ (es : List ℕ) (fields : ℕ) where
 
 -- ---- every base cell
 
-pub record Sided (es : List ℕ) (base : ℕ) : Type 0 where
-  pub kept : (k : ℕ) → k < length es → at es k / 2 ^ 56 ≡ 17 → base_cell (at es k) < base → side_kept es k ≡ true
+module _ {es : List ℕ} {target : ℕ} (A : SidesAsk es target) (none : (base : ℕ) → base < 122 → NoSide es ((272 + target) * 128 + base)) where
+  kept : (k : ℕ) → k < length es → eqb (at es k / 2 ^ 56) 17 ≡ true → side_kept es k ≡ true
+  kept k h e =
+      let both : (eqb (resolution_of (at es k)) target && leb (base_cell (at es k)) 121) ≡ true = passes_at (fields_kept target es) (length es) A.fields k h in
+      let r : resolution_of (at es k) ≡ target = eqb-true _ _ (and_left _ (leb (base_cell (at es k)) 121) both) in
+      let b : base_cell (at es k) ≤ 121 = leb-true _ _ (and_right (eqb (resolution_of (at es k)) target) _ both) in
+      let t : at es k / 2 ^ 56 ≡ 17 = eqb-true _ _ e in
+      (none (base_cell (at es k)) (omega arith)).none k h (omega arith)
 
-pub sided_start : {es : List ℕ} → Sided es 0
-sided_start = record { kept = λ k h t l. absurd (omega arith) }
-
-module _ {es : List ℕ} {target base : ℕ} (A : SidesAsk es target) (S : Sided es base) where
-  module _ (k : ℕ) (h : k < length es) where
-    fields : (eqb (resolution_of (at es k)) target && leb (base_cell (at es k)) 121) ≡ true
-    fields = passes_at (fields_kept target es) (length es) A.fields k h
-
-    resolution : resolution_of (at es k) ≡ target
-    resolution = eqb-true _ _ (and_left _ (leb (base_cell (at es k)) 121) fields)
-
-    base_fits : base_cell (at es k) ≤ 121
-    base_fits = leb-true _ _ (and_right (eqb (resolution_of (at es k)) target) _ fields)
-
-  pub sided_more : NoSide es ((272 + target) * 128 + base) → Sided es (base + 1)
-  sided_more N = record {
-    kept = λ k h t l.
-        let r = resolution k h in
-        let m : base_cell (at es k) ≤ base = omega arith in
-        ⊎_elim (λ (q : base_cell (at es k) ≡ base). N.none k h (omega arith)) (λ (q : base_cell (at es k) < base). S.kept k h t q) (eq-or-lt_of_le m);
-  }
-
-  pub sided_done : 122 ≤ base → passes (side_kept es) (length es) ≡ true
-  sided_done d = passes_all (side_kept es) (length es) (λ k h. ⊎_elim
-      (λ (e : eqb (at es k / 2 ^ 56) 17 ≡ true). S.kept k h (eqb-true _ _ e) (let b = base_fits k h in omega arith))
+  pub sides_done : passes (side_kept es) (length es) ≡ true
+  sides_done = passes_all (side_kept es) (length es) (λ k h. ⊎_elim
+      (λ (e : eqb (at es k / 2 ^ 56) 17 ≡ true). kept k h e)
       (λ (e : eqb (at es k / 2 ^ 56) 17 ≡ false). ap not (ap (λ (b : Bool). is_pentagon (at es k) && b) e ∙ and_false (is_pentagon (at es k))))
       (either (eqb (at es k / 2 ^ 56) 17)))

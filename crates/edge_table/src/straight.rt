@@ -25,10 +25,7 @@ fn sevens_off(x: u64, wanted: u64) -> u64
 fn difference(low: u64, high: u64) -> u64
     ensures { 2 ^ 63 ≤ result → low < 2 ^ 63 → low < high }
 {
-    if high <= low {
-        return low - high;
-    }
-    low + (u64::MAX - high) + 1
+    low.wrapping_sub(high)
 }
 
 // The digits 7 of every edge are the wanted ones, and the edges ascend, all below 2^63: the top bit stays where each difference has it
@@ -40,12 +37,10 @@ fn edges_kept(edges: &[u64], wanted: u64) -> bool
     let first = edges[0];
     let mut off = sevens_off(first, wanted);
     let mut rising = u64::MAX - first;
-    let mut i: usize = 1;
-    while i < edges.len() {
+    for i in 1..edges.len() {
         let x = edges[i];
-        off = off | sevens_off(x, wanted);
+        off |= sevens_off(x, wanted);
         rising = rising & difference(edges[i - 1], x) & (u64::MAX - x);
-        i += 1;
     }
     (off == 0) & (0x8000_0000_0000_0000 <= rising)
 }
@@ -53,13 +48,7 @@ fn edges_kept(edges: &[u64], wanted: u64) -> bool
 fn terms_finite(area: &[f64]) -> bool
     ensures { result ≡ passes (finite_at area.now) (length area.now) }
 {
-    let mut kept = true;
-    let mut i: usize = 0;
-    while i < area.len() {
-        kept = kept & is_finite(area[i]);
-        i += 1;
-    }
-    kept
+    area.iter().fold(true, |kept, &term| kept & is_finite(term))
 }
 
 // The reverse of row `i` is in the second half and names row `i` back.
@@ -75,12 +64,10 @@ fn halves_cross(reverse: &[u32], half: usize) -> bool
     requires { half ≤ length reverse.now }
     ensures { result ≡ passes (crosses half reverse.now) half }
 {
-    let mut i: usize = 0;
-    while i < half {
+    for i in 0..half {
         if !crosses_at(reverse, half, i) {
             return false;
         }
-        i += 1;
     }
     true
 }
@@ -88,13 +75,7 @@ fn halves_cross(reverse: &[u32], half: usize) -> bool
 fn each_paired(reverse: &[u32]) -> bool
     ensures { result ≡ passes (paired reverse.now) (length reverse.now) }
 {
-    let mut kept = true;
-    let mut i: usize = 0;
-    while i < reverse.len() {
-        kept = kept & row_paired(reverse, i);
-        i += 1;
-    }
-    kept
+    (0..reverse.len()).fold(true, |kept, i| kept & row_paired(reverse, i))
 }
 
 // Where a table crosses no face of the icosahedron, the reverses of edges 1 to 3 are edges 4 to 6: its first half names its second, and
@@ -102,7 +83,7 @@ fn each_paired(reverse: &[u32]) -> bool
 fn rows_paired(reverse: &[u32]) -> bool
     ensures { result ≡ passes (paired reverse.now) (length reverse.now) }
 {
-    let half = reverse.len() >> 1;
+    let half = reverse.len() / 2;
     if (reverse.len() == 2 * half) & halves_cross(reverse, half) {
         return true;
     }
@@ -110,19 +91,18 @@ fn rows_paired(reverse: &[u32]) -> bool
 }
 
 // Every edge has the target's resolution and a base cell. Rows in order stand by their top bytes, 17 to 22, and then by these fields: so
-// the rows of a top byte begin where those of the one before it end. `block` is the top byte and the resolution, 16 for each byte.
+// the rows of a top byte begin where those of the one before it end. `block` is the top byte and the resolution.
 fn fields_kept(edges: &[u64], target: u64) -> bool
     requires { (passes (ascends edges.now) (length edges.now) ≡ true) × (target < 16) }
     ensures { result ≡ true → passes (fields_kept target edges.now) (length edges.now) ≡ true }
 {
-    let mut end: usize = 0;
-    let mut block = 272 + target;
-    while block < 368 {
+    let mut end = 0;
+    for top in 17..23 {
+        let block = top * 16 + target;
         if rows_below(edges, block * 0x10_0000_0000_0000) != end {
             return false;
         }
         end = rows_below(edges, (block * 128 + 122) * 0x2000_0000_0000);
-        block += 16;
     }
     end == edges.len()
 }
@@ -148,14 +128,7 @@ fn sides_kept(edges: &[u64], target: u64) -> bool
     requires { SidesAsk edges.now target }
     ensures { result ≡ true → passes (side_kept edges.now) (length edges.now) ≡ true }
 {
-    let mut base: u64 = 0;
-    while base < 122 {
-        if side_among(edges, (272 + target) * 128 + base) {
-            return false;
-        }
-        base += 1;
-    }
-    true
+    !(0..122).any(|base| side_among(edges, (272 + target) * 128 + base))
 }
 
 // What the columns tell each by itself, and of the edges' top bytes the first and the last.

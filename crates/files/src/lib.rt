@@ -4,7 +4,9 @@
 
 ghost use Rattle.std.specs.Prelude.{◌≡◌};
 ghost use Rattle.io.specs.Counts.{IsPrefixLen};
-ghost use Rattle.files.specs.Files.{reason_of, count_of};
+ghost use Rattle.std.specs.IoError.{raw_os_error};
+ghost use Rattle.files.specs.declared.FileError.TheVariants as FileError;
+ghost use Rattle.files.specs.Files.{reason_of, reason_behind, count_of};
 
 use std::fs;
 use std::io::{Error, Read};
@@ -22,7 +24,7 @@ const ENOTDIR: i32 = 20;
 const EISDIR: i32 = 21;
 
 // Why a file cannot be read: there is none of this name, it is a directory, it may not be read, or what else the system has against it.
-#[derive(Clone, Copy)]
+#[derive(Clone, Copy, Debug, PartialEq, Eq)]
 pub enum Reason {
     Missing,
     Directory,
@@ -30,10 +32,9 @@ pub enum Reason {
     Other,
 }
 
-// So many bytes; none, since the file cannot be opened or read; or more than there is room for.
-#[derive(Clone, Copy)]
-pub enum FileRead {
-    Bytes(usize),
+// Why no bytes were taken: the file cannot be opened or read, or has more bytes than there is room for.
+#[derive(Clone, Copy, Debug, PartialEq, Eq)]
+pub enum FileError {
     Unreadable(Reason),
     TooLong,
 }
@@ -42,74 +43,56 @@ pub enum FileRead {
 fn reason_of(error: i32) -> Reason
     ensures { result ≡ reason_of error }
 {
-    if (error == ENOENT) | (error == ENOTDIR) {
-        return Reason::Missing;
-    }
-    if error == EISDIR {
-        return Reason::Directory;
-    }
-    if (error == EACCES) | (error == EPERM) {
-        return Reason::Forbidden;
-    }
-    Reason::Other
-}
-
-// The reason behind an error, which has a number where it is the system's. std has one of its own: a name that is no path.
-fn reason_behind(error: Error) -> Reason {
-    match error.raw_os_error() {
-        Some(number) => reason_of(number),
-        None => Reason::Other,
+    match error {
+        ENOENT | ENOTDIR => Reason::Missing,
+        EISDIR => Reason::Directory,
+        EACCES | EPERM => Reason::Forbidden,
+        _ => Reason::Other,
     }
 }
 
-// Reads until the bytes are full, the file ends or a read fails: how many came.
+// An error has a number where it is the system's. std has one of its own: a name that is no path.
+impl From<Error> for FileError {
+    ghost from_gives = { λ e r. r ≡ FileError.Unreadable (reason_behind (raw_os_error e)) };
+
+    fn from(error: Error) -> FileError {
+        FileError::Unreadable(error.raw_os_error().map_or(Reason::Other, reason_of))
+    }
+}
+
+// Reads until the bytes are full, the file ends or a read fails: how many came. std's read_exact does not tell how many came of a file that
+// ends early.
 fn read_full<F: Read>(file: &mut F, bytes: &mut [u8]) -> usize
     ensures { IsPrefixLen result bytes.new }
 {
-    let mut done: usize = 0;
+    let mut done = 0;
     while done < bytes.len() {
-        let Ok(count) = file.read(&mut bytes[done..]) else {
-            break;
-        };
-        if count == 0 {
-            break;
+        match file.read(&mut bytes[done..]) {
+            Ok(read) if 0 < read => done += read,
+            _ => break,
         }
-        done += count;
     }
     done
 }
 
 // The bytes of an open file, whose end is told by one read more.
-fn read_open<F: Read>(file: &mut F, bytes: &mut [u8]) -> FileRead
+fn read_open<F: Read>(file: &mut F, bytes: &mut [u8]) -> Result<usize, FileError>
     ensures { IsPrefixLen (count_of result) bytes.new }
 {
     let count = read_full(file, bytes);
-    let mut more = [0u8; 1];
-    let next = match file.read(&mut more) {
-        Ok(next) => next,
-        Err(error) => {
-            return FileRead::Unreadable(reason_behind(error));
-        }
-    };
-    if 0 < next {
-        return FileRead::TooLong;
+    let mut more = [0; 1];
+    if 0 < file.read(&mut more)? {
+        return Err(FileError::TooLong);
     }
-    FileRead::Bytes(count)
+    Ok(count)
 }
 
 // The bytes of the file at `path`, into the start of `bytes`. The library opens a file by a name that is UTF-8; by any other it can't, and no
 // file is read.
-pub fn read_file<R: Files>(rt: &R, path: &[u8], bytes: &mut [u8]) -> FileRead
+pub fn read_file<R: Files>(rt: &R, path: &[u8], bytes: &mut [u8]) -> Result<usize, FileError>
     ensures { IsPrefixLen (count_of result) bytes.new }
 {
-    let Ok(name) = str::from_utf8(path) else {
-        return FileRead::Unreadable(Reason::Other);
-    };
-    let mut file = match fs::open(rt, name) {
-        Ok(file) => file,
-        Err(error) => {
-            return FileRead::Unreadable(reason_behind(error));
-        }
-    };
+    let name = str::from_utf8(path).map_err(|_| FileError::Unreadable(Reason::Other))?;
+    let mut file = fs::open(rt, name)?;
     read_open(&mut file, bytes)
 }

@@ -2,19 +2,23 @@
 --     Halving es e low left        the rows below low have smaller edges than e, those past the rows left have no smaller one
 --     halving_start, halving_up, halving_down     begin; the middle is below e; it is not
 --     halving_met                    no row is left
---     met_at, met_absent, met_past   where the rows below e end there is a row that holds e, one that does not, or none
+--     met_row, met_past              where the rows below e end there is a row, which is that of e if it holds it; or there is none
 -- Assumes nothing.
 use Prim.Native.Nat.{ℕ, ◌+◌, ◌-◌, ◌<◌, ◌≤◌}
 use mathlib.Core.Path.{◌≡◌}
+use mathlib.Core.Bool.{Bool, true, false}
 use mathlib.Core.List.{List}
 use mathlib.Core.Logic.{⊎_elim}
 use native.Mathlib.Nat.{eq-or-lt_of_le}
 use native.Mathlib.Omega.{arith}
+use lib.Dec.{eqb, ltb}
 use lib.ListN.{length}
-use Rattle.scope.specs.declared.Found.TheVariants.{At, Absent}
+use borrow.Author.Tests.{eqb-true, eqb-false, le-ltb}
+use Rattle.std.specs.Prelude.{Some, None}
+use Rattle.std.specs.Bool.{then_some}
 use Rattle.scope.specs.Lists.{at}
 use Rattle.scope.specs.Table.{find_row}
-use Rattle.scope.proofs.Tests.{le_or_lt}
+use Rattle.scope.proofs.Tests.{either, le_or_lt}
 use Rattle.scope.proofs.Tables.{Ascending}
 use Rattle.scope.proofs.RowSearch.{row_is, row_none, found_at, found_absent}
 use Rattle.row_search.specs.Search.{RowsBelow}
@@ -57,16 +61,22 @@ pub halving_met : {es : List ℕ} {e low left : ℕ} → Halving es e low left �
 halving_met h met = record { within = omega (arith, h.within); below = h.below; above = λ k l n. h.above k (omega arith) n }
 
 module _ {es : List ℕ} {e low : ℕ} (asc : Ascending es) (h : RowsBelow es e low) where
-  pub met_at : low < length es → at es low ≡ e → At low ≡ find_row es e
-  met_at l q = found_at es e low (row_is es e asc low l q) l
+  met_at : at es low ≡ e → low < length es → Some low ≡ find_row es e
+  met_at q l = found_at es e low (row_is es e asc low l q) l
 
-  pub met_past : length es ≤ low → Absent ≡ find_row es e
-  met_past l = found_absent es e (row_none es e (λ k i q. let w = h.below k (omega arith) in omega arith))
-
-  pub met_absent : low < length es → (at es low ≡ e → ⊥) → Absent ≡ find_row es e
-  met_absent l other = found_absent es e (row_none es e (λ k i q.
+  met_other : (at es low ≡ e → ⊥) → low < length es → None ≡ find_row es e
+  met_other other l = found_absent es e (row_none es e (λ k i q.
       ⊎_elim
       (λ (a : low ≤ k).
       ⊎_elim (λ z. other (rw z q)) (λ s. let w = asc.order low k s i in let v = h.above low (omega arith) l in omega arith) (eq-or-lt_of_le a))
       (λ (b : k < low). let w = h.below k b in omega arith)
       (le_or_lt low k)))
+
+  pub met_row : {found : Bool} → low < length es → found ≡ eqb (at es low) e → then_some found low ≡ find_row es e
+  met_row l q = ⊎_elim
+      (λ (t : eqb (at es low) e ≡ true). rw (q, t) (met_at (eqb-true _ _ t) l))
+      (λ (f : eqb (at es low) e ≡ false). rw (q, f) (met_other (eqb-false _ _ f) l))
+      (either (eqb (at es low) e))
+
+  pub met_past : {found : Bool} → length es ≤ low → found ≡ ltb low (length es) → then_some found low ≡ find_row es e
+  met_past l q = rw (q, le-ltb low (length es) l) (found_absent es e (row_none es e (λ k i q. let w = h.below k (omega arith) in omega arith)))

@@ -7,7 +7,6 @@ ghost use Rattle.row_search.specs.Notes.{spread_of, note_place, noted};
 
 use crate::find_row;
 use index::resolution;
-use scope::Found;
 use slices::{at32, put32};
 
 // The last digits and the edge number, spread over 32 bits: a multiplication drives edges that stand near each other apart.
@@ -33,11 +32,9 @@ pub fn note_rows(edges: &[u64], notes: &mut [u32])
     requires { (length edges.now ≤ 2 ^ 32) × (0 < length notes.old) × (length notes.old ≤ 2 ^ 32) }
     ensures { notes.new ≡ noted edges.now notes.old (length edges.now) }
 {
-    let mut row: usize = 0;
-    while row < edges.len() {
-        let place = note_place(edges[row], notes.len());
+    for (row, &edge) in edges.iter().enumerate() {
+        let place = note_place(edge, notes.len());
         put32(notes, place, row);
-        row += 1;
     }
 }
 
@@ -51,15 +48,13 @@ fn note_of(notes: &[u32], edge: u64) -> usize {
 }
 
 // The row of an edge, by its note or else by halving.
-pub fn find_noted(edges: &[u64], notes: &[u32], edge: u64) -> Found
+pub fn find_noted(edges: &[u64], notes: &[u32], edge: u64) -> Option<usize>
     requires { passes (ascends edges.now) (length edges.now) ≡ true }
     ensures { result ≡ find_row edges.now edge }
 {
     let row = note_of(notes, edge);
-    if row < edges.len() {
-        if edges[row] == edge {
-            return Found::At(row);
-        }
+    if row < edges.len() && edges[row] == edge {
+        return Some(row);
     }
     find_row(edges, edge)
 }

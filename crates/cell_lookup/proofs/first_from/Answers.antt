@@ -1,8 +1,12 @@
--- `first_from` meets its contract. The ends close on the first place from x on.
+-- `first_from` meets its contract. The indices are parted by the key of x.
 -- Assumes nothing.
-use Rattle.cell_lookup.proofs.Lookups.{keys_fall}
-use Rattle.cell_lookup.proofs.Narrowing.{narrowing_done}
+use Rattle.std.proofs.Common.{rules, tests}
+use Rattle.std.proofs.lemmas.List.Sorted.{IsPartitionPoint-from_clause}
+use Rattle.cell_lookup.proofs.Fronts.{stands_before, keys_part, first_place}
 use Rattle.cell_lookup.proofs.first_from.Goals as goal
 
 pub returns : goal.returns
-returns c = narrowing_done (keys_fall c.requires c.args.x) c.loop-lo.invariant c.loop-lo-test.false
+returns c =
+    let x = c.args.x in
+    first_place c.requires x c.partition_point.ensures.bound
+    (IsPartitionPoint-from_clause (stands_before c.args.part.now x) _ _ c.partition_point.ensures.partitioned (keys_part c.requires x) (λ b r f k. search (rules, tests)))

@@ -1,12 +1,17 @@
 -- `first_under` meets its contract.
 -- Assumes nothing.
-use mathlib.Core.Path.{sym, ◌∙◌, ap}
-use mathlib.Core.Bool.{not}
-use Rattle.scope.proofs.Scan.{going_stop, going_done}
+use mathlib.Core.Path.{refl, ◌∙◌}
+use Rattle.std.proofs.Common.{rules, tests}
+use Rattle.std.proofs.lemmas.Iterator.{YieldsList-from_slice}
+use Rattle.std.proofs.lemmas.Iterator.Search.{position_from_yields_List}
+use Rattle.scope.specs.Cells.{under}
+use Rattle.scope.specs.CellLists.{not_over}
+use Rattle.scope.proofs.Iterated.{position_scan}
 use Rattle.cell_lookup.proofs.first_under.Goals as goal
 
-pub returns-then-lies_under : goal.returns-then-lies_under
-returns-then-lies_under c = going_stop c.loop-under.invariant c.loop-under-test.true (ap not (sym c.lies_under.ensures ∙ c.if-lies_under.true))
-
 pub returns : goal.returns
-returns c = going_done c.loop-under.invariant c.loop-under-test.false
+returns c =
+    let x = c.args.x in
+    let held = c.args.held.now in
+    position_from_yields_List (λ y. under y x) _ _ c.position.result c.position.ensures.ran (YieldsList-from_slice held cc) (λ y b q k. search (rules, tests))
+    ∙ position_scan 0 (λ y. under y x) (not_over held x) held (λ k h. refl)

@@ -1,13 +1,13 @@
 -- `is_unheld` meets its contract.
 -- Assumes nothing.
-use mathlib.Core.Path.{ap}
+use mathlib.Core.Path.{refl, ap, ◌∙◌}
 use mathlib.Core.Bool.{not}
-use borrow.Author.Tests.{eq-eqb}
-use Rattle.scope.proofs.Scan.{going_false, going_true}
+use lib.Dec.{eqb}
+use Rattle.scope.specs.CellLists.{differs}
+use Rattle.scope.proofs.Iterated.{any_scan}
 use Rattle.cell_lookup.proofs.is_unheld.Goals as goal
 
-pub returns-then-held-other : goal.returns-then-held-other
-returns-then-held-other c = going_false c.loop-other.invariant c.loop-other-test.true (ap not (eq-eqb _ _ c.if-held-other.true))
-
 pub returns : goal.returns
-returns c = going_true c.loop-other.invariant c.loop-other-test.false
+returns c =
+    let a = c.args in
+    ap not c.contains.ensures.value ∙ any_scan 0 (λ y. eqb y a.x) (differs a.held.now a.x) a.held.now (λ k h. refl)

@@ -1,14 +1,16 @@
 -- `row_search::find_row` meets its contract. Where the rows below the edge end, it stands or is absent.
 -- Assumes nothing.
+use mathlib.Core.Path.{◌∙◌}
 use Rattle.scope.proofs.Tables.{ascending}
-use Rattle.row_search.proofs.Search.{met_at, met_past, met_absent}
+use Rattle.row_search.proofs.Search.{met_row, met_past}
 use Rattle.row_search.proofs.find_row.Goals as goal
-
-pub returns-then-edges-low : goal.returns-then-edges-low
-returns-then-edges-low c = met_past (ascending _ c.requires) c.rows_below-low.ensures c.if-edges-low.true
-
-pub returns-then-edges-low-2 : goal.returns-then-edges-low-2
-returns-then-edges-low-2 c = met_at (ascending _ c.requires) c.rows_below-low.ensures c.if-edges-low.false c.if-edges-low-2.true
+use Rattle.row_search.proofs.find_row.Goals.{then-low-edges, else-low-edges}
 
 pub returns : goal.returns
-returns c = met_absent (ascending _ c.requires) c.rows_below-low.ensures c.if-edges-low.false c.if-edges-low-2.false
+returns c =
+    let asc = ascending _ c.requires in
+    let below = c.rows_below-low.ensures in
+    c.then_some.ensures ∙ elim c.if-low-edges.branch [
+      | then-low-edges w ↦ met_row asc below w.if-low-edges.true w.then_some-is
+      | else-low-edges w ↦ met_past asc below w.if-low-edges.false w.then_some-is
+    ]

@@ -1,14 +1,17 @@
 -- `table_rules::bad_row` meets its contract. A scan.
 -- Assumes nothing.
-use mathlib.Core.Bool.{not}
-use mathlib.Core.Path.{ap}
-use Rattle.scope.specs.Table.{row_good}
-use Rattle.scope.proofs.Tests.{fails}
-use Rattle.scope.proofs.Scan.{going_stop, going_done}
+use mathlib.Core.Bool.{true, false}
+use mathlib.Core.Path.{◌≡◌}
+use lib.ListN.{length}
+use Rattle.std.proofs.Common.{rules, tests}
+use Rattle.std.proofs.lemmas.Iterator.{first_from_Range}
+use Rattle.scope.specs.Table.{table, row_good}
+use Rattle.scope.proofs.Iterated.{find_range}
 use Rattle.table_rules.proofs.bad_row.Goals as goal
 
-pub returns-then-not-row_good : goal.returns-then-not-row_good
-returns-then-not-row_good c = going_stop c.loop-row.invariant c.loop-row-test.true (fails c.row_good.ensures (ap not c.if-not-row_good.true))
-
 pub returns : goal.returns
-returns c = going_done c.loop-row.invariant c.loop-row-test.false
+returns c =
+    let a = c.args in
+    let good = row_good (table a.edges.now a.reverse.now a.area.now) in
+    find_range good (length a.edges.now) c.find.result
+    (first_from_Range _ _ _ c.find.result (λ i. good i ≡ false) (λ i. good i ≡ true) c.find.ensures.ran (λ x q k. search (rules, tests)) (λ x q k. search (rules, tests)))

@@ -1,10 +1,18 @@
 -- `edge_table::straight::each_paired` meets its contract.
 -- Assumes nothing.
-use Rattle.edge_table.proofs.Columns.{passing_start, passing_more}
+use mathlib.Core.Bool.{true, ◌&&◌}
+use mathlib.Core.Path.{refl, ◌∙◌}
+use lib.ListN.{length}
+use Rattle.std.proofs.Common.{arith, rules, tests}
+use Rattle.std.proofs.lemmas.Iterator.{YieldsList-from_range}
+use Rattle.std.proofs.lemmas.Iterator.Consumers.{fold_from_yields_List}
+use Rattle.scope.specs.Table.{paired}
+use Rattle.scope.proofs.Iterated.{fold_range}
 use Rattle.edge_table.proofs.straight.each_paired.Goals as goal
 
-pub loop-i-init : goal.loop-i-init
-loop-i-init c = passing_start
-
-pub loop-i-preserved : goal.loop-i-preserved
-loop-i-preserved c = passing_more c.loop-i.invariant c.loop-i-test.true c.row_paired-kept.ensures
+pub returns : goal.returns
+returns c =
+    let rs = c.args.reverse.now in
+    let n = length rs in
+    fold_from_yields_List _ (λ kept i. kept && paired rs i) true c.fold.result c.fold.ensures.ran (YieldsList-from_range 0 n n refl (omega arith)) (λ kept i b q k. search (rules, tests))
+    ∙ fold_range (paired rs) n

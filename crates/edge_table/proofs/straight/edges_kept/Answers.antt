@@ -1,7 +1,9 @@
 -- `edge_table::straight::edges_kept` meets its contract.
 -- Assumes nothing.
 use native.Mathlib.Omega.{arith}
+use Prim.Native.Nat.{◌<◌}
 use lib.Dec.{eqb}
+use lib.ListN.{length}
 use borrow.Author.Tests.{eqb-true, leb-true}
 use Rattle.scope.specs.Lists.{at}
 use Rattle.scope.proofs.Tests.{and_left, and_right}
@@ -20,7 +22,7 @@ loop-i-preserved c =
     let a = c.args in
     let es = a.edges.now in
     let l = c.loop-i in
-    let taken = c.loop-i-test.true in
+    let taken : l.i < length es = omega arith in
     (omega arith, showing_more l.invariant.1 taken (λ e. sevens_more l.off (sevens (at es l.i)) a.wanted c.sevens_off-off-in-loop-i.ensures e), rising_more es l.invariant.2 l.invariant.0 taken c.difference.ensures (λ h. omega arith))
 
 pub returns : goal.returns
@@ -28,6 +30,6 @@ returns c = λ e.
     let l = c.loop-i in
     let clear = eqb l.off 0 in
     record {
-      digits = showing_done l.invariant.1 c.loop-i-test.false (eqb-true _ _ (and_left clear _ e));
-      order = rising_done _ l.invariant.2 c.loop-i-test.false (leb-true _ _ (and_right clear _ e));
+      digits = showing_done l.invariant.1 (omega arith) (eqb-true _ _ (and_left clear _ e));
+      order = rising_done _ l.invariant.2 (omega arith) (leb-true _ _ (and_right clear _ e));
     }

@@ -5,4 +5,4 @@ use Rattle.edge_table.proofs.Blocks.{blocks_done}
 use Rattle.edge_table.proofs.straight.fields_kept.Goals as goal
 
 pub returns : goal.returns
-returns c = λ e. blocks_done c.loop-block.invariant (eqb-true _ _ e)
+returns c = λ e. blocks_done c.loop-top.invariant (eqb-true _ _ e)

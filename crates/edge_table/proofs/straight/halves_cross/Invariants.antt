@@ -1,11 +1,7 @@
 -- The loop of `edge_table::straight::halves_cross`.
-use Prim.Native.Nat.{◌-◌}
 use Rattle.scope.proofs.Scan.{Going}
 use Rattle.edge_table.specs.Straight.{crosses}
 use Rattle.edge_table.proofs.straight.halves_cross.Given as goal
 
 abbrev pub invariant-loop-i : goal.invariant-loop-i
 invariant-loop-i l = Going (crosses l.half l.reverse) l.half l.i
-
-abbrev pub decreases-loop-i : goal.decreases-loop-i
-decreases-loop-i l = l.half - l.i

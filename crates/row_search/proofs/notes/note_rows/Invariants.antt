@@ -1,11 +1,6 @@
 -- The loop of `row_search::notes::note_rows`.
-use Prim.Native.Nat.{◌-◌}
-use lib.ListN.{length}
 use Rattle.row_search.proofs.Noting.{Noting}
 use Rattle.row_search.proofs.notes.note_rows.Given as goal
 
 abbrev pub invariant-loop-row : goal.invariant-loop-row
 invariant-loop-row l = Noting l.edges l.initial.notes l.notes l.row
-
-abbrev pub decreases-loop-row : goal.decreases-loop-row
-decreases-loop-row l = length l.edges - l.row

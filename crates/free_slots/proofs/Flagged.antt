@@ -1,5 +1,4 @@
 -- The search by flags.
---     Stepping                   the loop of `next_word`: no word before i has a flag, and one from i on has
 --     word_asks, slot-in         the free slot's flag is set: a word has one, and its lowest is no higher than the free slot
 --     searched, searched_on      what the search leaves
 --     flags_vacated              two slots are free again, and their flags set
@@ -21,36 +20,6 @@ use Rattle.scope.proofs.Members.{cases}
 use Rattle.free_slots.specs.Search.{free_from, digit_at, Flags, vacated, WordAsks, WordFound, SearchAsks, Searched}
 use Rattle.free_slots.proofs.Searching.{First, free_first}
 use Rattle.free_slots.proofs.Digits.{zero_none, lowest_low, without_lowest, or_left, or_right, power_digit}
-
--- ---- the first word with a flag
-
-pub record Stepping (vacant : List ℕ) (start i : ℕ) : Type 0 where
-  pub low : start ≤ i
-  pub none : (k : ℕ) → start ≤ k → k < i → at vacant k ≡ 0
-  pub left : WordAsks vacant i
-
-module _ {vacant : List ℕ} {start : ℕ} where
-  pub stepping_start : WordAsks vacant start → Stepping vacant start start
-  stepping_start A = record { low = omega arith; none = λ k h l. absurd (omega arith); left = A }
-
-  module _ {i : ℕ} (S : Stepping vacant start i) where
-    pub stepping_in : i < length vacant
-    stepping_in = omega (arith, S.left.high, S.left.within)
-
-    pub stepping_on : at vacant i ≡ 0 → Stepping vacant start (i + 1)
-    stepping_on z = record {
-      low = omega (arith, S.low);
-      none = λ k h l. cases k i (λ e. ap (at vacant) e ∙ z) (λ d. S.none k h (omega arith));
-      left = record {
-        word = S.left.word;
-        high = cases S.left.word i (λ e. absurd (S.left.some (ap (at vacant) e ∙ z))) (λ d. omega (arith, S.left.high));
-        within = S.left.within;
-        some = S.left.some;
-      };
-    }
-
-    pub stepping_end : at vacant i ≢ 0 → WordFound vacant start i
-    stepping_end f = record { high = S.low; within = stepping_in; none = S.none; some = f }
 
 -- ---- the search
 

@@ -1,23 +1,28 @@
 -- The search for a free slot.
 --     from_same                        the lowest failure from i on looks at nothing below i
 --     free_here, free_on, free_end     the search as a loop
---     two_passed, joined               several used slots at a time
---     First                            what the search finds: `free_first`, and it is the only such slot, `first_one`
+--     all_more                         whether all pass, with one more
+--     First                            what the search finds: `free_first`, and it is the only such slot, `first_one`; `find_first`: as `find` answers
 -- Assumes nothing.
 use mathlib.Core.Path.{◌≡◌, refl, sym, ◌∙◌, ap}
 use mathlib.Core.Logic.{◌≢◌, ⊎_elim}
 use mathlib.Core.Bool.{Bool, true, false, ◌&&◌, not, cond}
-use mathlib.Core.List.{List}
+use mathlib.Core.List.{List, [], ◌∷◌, ◌++◌}
 use Prim.Native.Nat.{ℕ, zero, suc, ◌+◌, ◌-◌, ◌≤◌, ◌<◌}
 use native.Mathlib.Numerals.{add-one}
 use native.Mathlib.Omega.{arith}
 use lib.Dec.{eqb}
-use lib.ListN.{length}
+use lib.ListN.{length, take, drop, length-take, length-drop, length-append, get_or-append}
+use lib.Seq.{get_or-take, get_or-drop}
+use Rattle.std.proofs.lemmas.List.{get_or-append-add}
 use borrow.Author.Tests.{eq-eqb, ne_eqb}
+use Rattle.std.specs.Prelude.{Option, None, Some}
+use Rattle.std.specs.Option.{MatchOption, unwrap_or}
+use Rattle.std.specs.List.{list_all}
 use Rattle.scope.specs.Lists.{at, from}
 use Rattle.scope.proofs.Tests.{clash, either, and_left, and_right}
 use Rattle.scope.proofs.Members.{cases}
-use Rattle.free_slots.specs.Search.{free_from, PassedOver}
+use Rattle.free_slots.specs.Search.{free_from}
 
 pub from_same : (ok ko : ℕ → Bool) (n i : ℕ) → ((k : ℕ) → i ≤ k → ok k ≡ ko k) → from ok n i ≡ from ko n i
 unfolding from
@@ -43,23 +48,62 @@ module _ (rows : List ℕ) (i : ℕ) where
 
 -- ---- several slots at a time
 
-pub two_passed : (rows : List ℕ) (i : ℕ) → i + 2 ≤ length rows → {b : Bool} → b ≡ (not (eqb (at rows i) 0) && not (eqb (at rows (i + 1)) 0)) → PassedOver b rows i 2
-two_passed rows i h {b} e = record {
-  shown = λ t.
-      let both = sym e ∙ t in
-      let first = free_on rows i (omega arith) (used (at rows i) (and_left (not (eqb (at rows i) 0)) _ both)) in
-      let second = free_on rows (i + 1) (omega arith) (used (at rows (i + 1)) (and_right (not (eqb (at rows i) 0)) _ both)) in
-      let s : i + 2 ≡ i + 1 + 1 = omega arith in
-      ap (free_from rows) s ∙ second ∙ first;
-}
+pub all_more : (ok : ℕ → Bool) (xs : List ℕ) (x : ℕ) → list_all ok (xs ++ x ∷ []) ≡ (list_all ok xs && ok x)
+all_more ok [] x = and_true (ok x)
   where
-    used : (x : ℕ) → not (eqb x 0) ≡ true → x ≡ 0 → ⊥
-    used x t z = clash t (ap not (eq-eqb x 0 z))
+    and_true : (b : Bool) → (b && true) ≡ b
+    and_true true = refl
+    and_true false = refl
+all_more ok (y ∷ xs) x = ap (λ (b : Bool). ok y && b) (all_more ok xs x) ∙ and_assoc (ok y) (list_all ok xs) (ok x)
+  where
+    and_assoc : (a b d : Bool) → (a && (b && d)) ≡ ((a && b) && d)
+    and_assoc true b d = refl
+    and_assoc false b d = refl
 
-pub joined : {rows : List ℕ} {i n m : ℕ} {a b : Bool} → PassedOver a rows i n → PassedOver b rows (i + n) m → PassedOver (a && b) rows i (n + m)
-joined {rows} {i} {n} {m} {a} {b} P Q = record {
-  shown = λ t. let s : i + (n + m) ≡ i + n + m = omega arith in ap (free_from rows) s ∙ Q.shown (and_right a b t) ∙ P.shown (and_left a b t);
-}
+all_at : (xs : List ℕ) → list_all (λ x. not (eqb x 0)) xs ≡ true → (k : ℕ) → k < length xs → at xs k ≢ 0
+all_at [] e k h = absurd (omega arith)
+all_at (x ∷ xs) e zero h = λ z. clash (and_left (not (eqb x 0)) _ e) (ap not (eq-eqb x 0 z))
+all_at (x ∷ xs) e (suc k) h = all_at xs (and_right (not (eqb x 0)) _ e) k (omega arith)
+
+passed : (rows : List ℕ) (n i : ℕ) → i + n ≤ length rows → ((k : ℕ) → k < n → at rows (i + k) ≢ 0) → free_from rows (i + n) ≡ free_from rows i
+passed rows zero i h u = ap (free_from rows) (omega arith)
+passed rows (suc n) i h u =
+    let next : i + suc n ≡ i + 1 + n = omega arith in
+    let here : at rows i ≢ 0 = λ z. u 0 (omega arith) (ap (at rows) (omega arith) ∙ z) in
+    ap (free_from rows) next
+    ∙ passed rows n (i + 1) (omega arith) (λ k l z. u (k + 1) (omega arith) (ap (at rows) (omega arith) ∙ z))
+    ∙ free_on rows i (omega arith) here
+
+-- a walk by eights that stands at `slot`, with `rest` to come
+pub record Skipping (rows : List ℕ) (start slot size : ℕ) (rest : List ℕ) : Type 0 where
+  pub size_is : size ≡ 8
+  pub within : slot + length rest ≤ length rows
+  pub same : (j : ℕ) → j < length rest → at rest j ≡ at rows (slot + j)
+  pub found : free_from rows slot ≡ free_from rows start
+
+pub skip_start : {rows rest : List ℕ} {start size : ℕ} → start ≤ length rows → size ≡ 8 → rest ≡ take (length rows - start) (drop start rows) → Skipping rows start start size rest
+skip_start {rows} {rest} {start} h s e =
+    let long : length rest ≡ length rows - start = rw (e, length-take, length-drop) (omega arith) in
+    record {
+      size_is = s;
+      within = omega arith;
+      same = λ j l. rw e (get_or-take (length rows - start) (drop start rows) j 0 (omega arith) ∙ get_or-drop start rows j 0);
+      found = refl;
+    }
+
+pub skip_more : {rows rest : List ℕ} {start slot size size' : ℕ} (eight rest' : List ℕ) → Skipping rows start slot size rest → rest ≡ eight ++ rest' → length eight ≡ size
+    → list_all (λ x. not (eqb x 0)) eight ≡ true → size' ≡ size → Skipping rows start (slot + 8) size' rest'
+skip_more {rows} {rest} {start} {slot} eight rest' S cut long used same =
+    let all : length rest ≡ length eight + length rest' = ap length cut ∙ length-append eight rest' in
+    let w = S.within in
+    let eight_long : length eight ≡ 8 = long ∙ S.size_is in
+    record {
+      size_is = same ∙ S.size_is;
+      within = omega arith;
+      same = λ j h. sym (ap (λ (l : List ℕ). at l (length eight + j)) cut ∙ get_or-append-add eight rest' j 0) ∙ S.same (length eight + j) (omega arith) ∙ ap (at rows) (omega arith);
+      found = passed rows 8 slot (omega arith) (λ k h z.
+          all_at eight used k (omega arith) (sym (ap (λ (l : List ℕ). at l k) cut ∙ get_or-append eight rest' 0 k (omega arith)) ∙ S.same k (omega arith) ∙ z)) ∙ S.found;
+    }
 
 -- ---- what is found
 
@@ -106,3 +150,10 @@ not_lower {rows} {i} {s} {r} S R h = R.used s S.high h (S.free (omega (arith, R.
 
 pub first_one : {rows : List ℕ} {i s r : ℕ} → First rows i s → First rows i r → s ≡ r
 first_one S R = let p = not_lower S R in let q = not_lower R S in omega arith
+
+-- what `find` answers over the slots from i on, or the number of slots
+pub find_first : (rows : List ℕ) (i : ℕ) (r : Option ℕ) → i ≤ length rows
+    → MatchOption r ((k : ℕ) → i ≤ k → k < length rows → at rows k ≢ 0) (λ s. (i ≤ s) × (s < length rows) × (at rows s ≡ 0) × ((k : ℕ) → i ≤ k → k < s → at rows k ≢ 0))
+    → unwrap_or r (length rows) ≡ free_from rows i
+find_first rows i None h m = first_one (record { high = h; within = omega arith; used = m; free = λ l. absurd (omega arith) }) (free_first rows i h)
+find_first rows i (Some s) h m = first_one (record { high = m.0; within = omega (arith, m.1); used = m.3; free = λ l. m.2 }) (free_first rows i h)

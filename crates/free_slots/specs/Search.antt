@@ -1,6 +1,6 @@
 -- The search for a free slot: by flags of the slots that may be free, 64 to a word; or by eights.
 -- Assumes nothing.
-use Rattle.std.specs.Prelude.{◌≡◌, ◌≢◌, Bool, true, not, List, ℕ, zero, suc, ◌+◌, ◌-◌, ◌*◌, ◌/◌, ◌%◌, ◌≤◌, ◌<◌, ◌^◌, eqb, length, set}
+use Rattle.std.specs.Prelude.{◌≡◌, ◌≢◌, Bool, not, List, ℕ, zero, suc, ◌-◌, ◌*◌, ◌/◌, ◌%◌, ◌≤◌, ◌<◌, ◌^◌, eqb, length, set}
 use Rattle.std.specs.Int.Bits.{bit_or}
 use Rattle.scope.specs.Lists.{at, from}
 
@@ -11,10 +11,6 @@ used_in slot_row s = not (eqb (at slot_row s) 0)
 -- the lowest free slot from i on, or the number of slots
 abbrev pub free_from : List ℕ → ℕ → ℕ
 free_from slot_row i = from (used_in slot_row) (length slot_row - i) i
-
--- the answer true says that the lowest free slot from i on is the same from i + n on
-pub record PassedOver (b : Bool) (slot_row : List ℕ) (i n : ℕ) : Type 0 where
-  pub shown : b ≡ true → free_from slot_row (i + n) ≡ free_from slot_row i
 
 -- ---- flags of slots
 

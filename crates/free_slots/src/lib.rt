@@ -2,35 +2,21 @@
 // the slot is looked at. Flags that are all set are right for any pool, so that no state need keep them; where one misleads, the search goes by eights.
 #![tactic(auto)]
 
-ghost use Rattle.std.specs.Prelude.{◌≡◌, ◌+◌, ◌*◌, ◌/◌, ◌<◌, ◌≤◌, length};
+ghost use Rattle.std.specs.Prelude.{◌≡◌, ◌+◌, ◌*◌, ◌/◌, ◌<◌, ◌≤◌, ◌==◌, not, length};
+ghost use Rattle.std.specs.List.{list_all};
 ghost use Rattle.std.specs.Int.Count.{count_trailing_zeros};
-ghost use Rattle.free_slots.specs.Search.{free_from, PassedOver, vacated, WordAsks, WordFound, SearchAsks, Searched};
+ghost use Rattle.free_slots.specs.Search.{free_from, vacated, WordAsks, WordFound, SearchAsks, Searched};
 
-use slices::{get32, wide32};
+use slices::get32;
 
 // Flags of a word.
 const WORD: usize = 64;
 
-// Two slots are used: a search may go on behind them. Put together to eight they are few instructions.
-fn two_used(slot_row: &[u32], i: usize) -> bool
-    requires { i + 2 ≤ length slot_row.now }
-    ensures { PassedOver result slot_row.now i 2 }
+// All of some slots are used, told with no early end: of eight it is few instructions.
+fn all_used(slots: &[u32]) -> bool
+    ensures { result ≡ list_all (λ row. not (row == 0)) slots.now }
 {
-    (slot_row[i] != 0) & (slot_row[i + 1] != 0)
-}
-
-fn four_used(slot_row: &[u32], i: usize) -> bool
-    requires { i + 4 ≤ length slot_row.now }
-    ensures { PassedOver result slot_row.now i 4 }
-{
-    two_used(slot_row, i) & two_used(slot_row, i + 2)
-}
-
-fn eight_used(slot_row: &[u32], i: usize) -> bool
-    requires { i + 8 ≤ length slot_row.now }
-    ensures { PassedOver result slot_row.now i 8 }
-{
-    four_used(slot_row, i) & four_used(slot_row, i + 4)
+    slots.iter().fold(true, |used, row| used & (*row != 0))
 }
 
 // From `start` on, behind as many used slots as go by eights.
@@ -38,36 +24,25 @@ fn skip_used(slot_row: &[u32], start: usize) -> usize
     requires { start ≤ length slot_row.now }
     ensures { (result ≤ length slot_row.now) × (free_from slot_row.now result ≡ free_from slot_row.now start) }
 {
-    let mut i = start;
-    while 8 <= slot_row.len() - i {
-        if !eight_used(slot_row, i) {
-            return i;
+    let mut slot = start;
+    for eight in slot_row[start..].chunks_exact(8) {
+        if !all_used(eight) {
+            return slot;
         }
-        i += 8;
+        slot += 8;
     }
-    i
+    slot
 }
 
-// The lowest free slot from `start` on, or the pool's size where there is none, one by one.
-fn step_to_free(slot_row: &[u32], start: usize) -> usize
-    requires { start ≤ length slot_row.now }
-    ensures { result ≡ free_from slot_row.now start }
-{
-    let mut i = start;
-    while i < slot_row.len() {
-        if get32(slot_row, i) == 0 {
-            return i;
-        }
-        i += 1;
-    }
-    i
-}
-
+// The lowest free slot from `start` on, or the pool's size where there is none.
 fn next_free(slot_row: &[u32], start: usize) -> usize
     requires { start ≤ length slot_row.now }
     ensures { result ≡ free_from slot_row.now start }
 {
-    step_to_free(slot_row, skip_used(slot_row, start))
+    let behind = skip_used(slot_row, start);
+    (behind..slot_row.len())
+        .find(|slot| slot_row[*slot] == 0)
+        .unwrap_or(slot_row.len())
 }
 
 // The first word with a flag, from `start` on, where there is one.
@@ -75,18 +50,16 @@ fn next_word(vacant: &[u64], start: usize) -> usize
     requires { WordAsks vacant.now start }
     ensures { WordFound vacant.now start result }
 {
-    let mut i = start;
-    while vacant[i] == 0 {
-        i += 1;
-    }
-    i
+    (start..vacant.len())
+        .find(|place| vacant[*place] != 0)
+        .unwrap_or(vacant.len())
 }
 
 // The place of a word's lowest flag.
 fn lowest_flag(word: u64) -> usize
     ensures { result ≡ count_trailing_zeros 64 word }
 {
-    wide32(u64::trailing_zeros(word))
+    word.trailing_zeros() as usize
 }
 
 // The lowest free slot, where some is free and none below `start`; the caller uses it. A slot whose flag misleads costs a search by eights.

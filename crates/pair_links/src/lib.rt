@@ -7,6 +7,7 @@ ghost use Rattle.pair_links.specs.Links.{swap_next, swap_prev, drop_next, drop_p
 use slices::{get32, put32};
 
 // Clears the numbers at two places.
+#[tactic(auto, unfolding(crate::specs::Links::clear_two))]
 fn clear_two(s: &mut [u32], x: usize, y: usize)
     requires { (x < length s.old) × (y < length s.old) }
     ensures { s.new ≡ clear_two s.old x y }
@@ -16,6 +17,7 @@ fn clear_two(s: &mut [u32], x: usize, y: usize)
 }
 
 // The slots `x` and `y` exchange their nexts.
+#[tactic(auto, unfolding(crate::specs::Links::swap_next, crate::specs::Links::swap_prev))]
 fn swap_next(prev: &mut [u32], next: &mut [u32], x: usize, y: usize)
     requires { Closed prev.old next.old × (x < length next.old) × (y < length next.old) }
     ensures { (next.new ≡ swap_next next.old x y) × (prev.new ≡ swap_prev next.old prev.old x y) }
@@ -29,6 +31,7 @@ fn swap_next(prev: &mut [u32], next: &mut [u32], x: usize, y: usize)
 }
 
 // The slot `x` is taken out of its ring.
+#[tactic(auto, unfolding(crate::specs::Links::drop_next, crate::specs::Links::drop_prev))]
 fn unlink(prev: &mut [u32], next: &mut [u32], x: usize)
     requires { Closed prev.old next.old × (x < length next.old) }
     ensures { (next.new ≡ drop_next next.old prev.old x) × (prev.new ≡ drop_prev next.old prev.old x) }

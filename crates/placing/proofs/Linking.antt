@@ -5,12 +5,12 @@
 -- Assumes nothing.
 use mathlib.Core.Path.{◌≡◌, refl, sym, ap, ◌∙◌}
 use mathlib.Core.List.{List, [], ◌∷◌}
-use Prim.Native.Nat.{ℕ, zero, suc, ◌+◌, ◌-◌, ◌≤◌, ◌<◌}
+use Prim.Native.Nat.{ℕ, zero, suc, ◌+◌, ◌-◌, ◌≤◌, ◌<◌, ◌^◌}
 use native.Mathlib.Numerals.{add-one}
 use native.Mathlib.Omega.{arith}
 use lib.ListN.{length, set, drop, length-set, drop_of_length-le, length-map}
 use Rattle.scope.specs.Lists.{at, rotate, put_all}
-use Rattle.scope.proofs.Outlines.{onward}
+use Rattle.scope.proofs.Outlines.{onward, onward_lt}
 use Rattle.scope.proofs.Puts.{rotate_length, rotate_at}
 use Rattle.placing.specs.Place.{slots_at, SlotAsks, LinkAsks, LinkedRows}
 use Rattle.placing.proofs.Placing.{store_next}
@@ -37,7 +37,7 @@ module _ {prev next row_slot o : List ℕ} (A : LinkAsks prev next row_slot o) w
   pub slot_asks : (i : ℕ) → i < length o → SlotAsks row_slot o i
   slot_asks i h = record { within = h; in_table = A.in_table i h; has_slot = A.have_slots i h }
 
-  pub slot_low : (i : ℕ) → i < length o → at (slots_at row_slot o) i < length next
+  slot_low : (i : ℕ) → i < length o → at (slots_at row_slot o) i < length next
   slot_low i h = omega (arith, slots_at_lem row_slot o i h, A.have_slots i h, A.in_pool i h)
 
   module _ {i : ℕ} {prev' next' : List ℕ} (L : Linking prev next row_slot o i prev' next') where
@@ -54,6 +54,23 @@ module _ {prev next row_slot o : List ℕ} (A : LinkAsks prev next row_slot o) w
     module _ (h : i < length o) where
       turned : at (rotate (slots_at row_slot o)) i ≡ at (slots_at row_slot o) (onward (length o) i)
       turned = rotate_at (slots_at row_slot o) i (rw many h) ∙ rw many
+
+      -- the two stores are in range, and what they store fits
+      pub record Fits (s t : ℕ) : Type 0 where
+        pub in_next : s < length next'
+        pub in_prev : t < length prev'
+        pub next_fits : t < 2 ^ 32
+        pub prev_fits : s < 2 ^ 32
+
+      pub linking_fits : {s j t : ℕ} → s ≡ at (slots_at row_slot o) i → j ≡ onward (length o) i → t ≡ at (slots_at row_slot o) j → Fits s t
+      linking_fits {s} {j} {t} es ej et =
+          let slot : s < length next = rw es (slot_low i h) in
+          let after : t < length next = rw (et, ej) (slot_low (onward (length o) i) (onward_lt (length o) i h)) in
+          let even = A.even in
+          let fits = A.fits in
+          let l = L.long_next in
+          let m = L.long_prev in
+          record { in_next = omega arith; in_prev = omega arith; next_fits = omega arith; prev_fits = omega arith }
 
       -- A TURN: the two stores
       pub linking_turn : {s j t : ℕ} → s ≡ at (slots_at row_slot o) i → j ≡ onward (length o) i → t ≡ at (slots_at row_slot o) j

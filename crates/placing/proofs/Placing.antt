@@ -92,11 +92,11 @@ module _ {slot_row slot_cell row_slot vacant o : List ℕ} {n : ℕ} (A : PlaceA
         }
 
     -- the slot that the search answers is the next edge's
-    pub record Slot (s : ℕ) : Type 0 where
-      pub low : s < length slot_row
-      pub high : start ≤ s
-      pub is : s ≡ at (slots_in slot_row o) i
-      pub later : take (length o - suc i) (passing (λ s. not (used_in slot_row s)) (suc s) (length slot_row - suc s)) ≡ drop (suc i) (slots_in slot_row o)
+    record Slot (s : ℕ) : Type 0 where
+      low : s < length slot_row
+      high : start ≤ s
+      is : s ≡ at (slots_in slot_row o) i
+      later : take (length o - suc i) (passing (λ s. not (used_in slot_row s)) (suc s) (length slot_row - suc s)) ≡ drop (suc i) (slots_in slot_row o)
 
     module _ (h : i < length o) where
       some : 0 < length (passing (λ s. not (used_in slot_row s)) start (length slot_row - start))
@@ -105,7 +105,7 @@ module _ {slot_row slot_cell row_slot vacant o : List ℕ} {n : ℕ} (A : PlaceA
           let b = length-take (length o - i) (passing (λ s. not (used_in slot_row s)) start (length slot_row - start)) in
           omega (arith, a, b, slots_many)
 
-      pub placing_slot : {s : ℕ} → s ≡ free_from slotRow' start → Slot s
+      placing_slot : {s : ℕ} → s ≡ free_from slotRow' start → Slot s
       placing_slot {s} e =
           let f : s ≡ free_from slot_row start = e ∙ rw P.long_rows (from_same (used_in slotRow') (used_in slot_row) (length slot_row - start) start (λ k l. rw (P.same k l))) in
           let r = passing_next (used_in slot_row) (length slot_row - start) start some in
@@ -137,23 +137,24 @@ module _ {slot_row slot_cell row_slot vacant o : List ℕ} {n : ℕ} (A : PlaceA
         pub slot_fits : s + 1 < 2 ^ 32
         pub cell_fits : n < 2 ^ 32
 
-      pub placing_fits : {s row : ℕ} → Slot s → row ≡ at o i → Fits s row
-      placing_fits S e =
-          let low = S.low in
+      pub placing_fits : {s row : ℕ} → s ≡ free_from slotRow' start → row ≡ at o i → Fits s row
+      placing_fits f e =
+          let low = (placing_slot f).low in
           let r = A.in_table i h in
           let a = A.slots_fit in
           let b = A.rows_fit in
           let c = A.even in
           let d = P.long_rows in
-          let f = P.long_cells in
+          let q = P.long_cells in
           let g = P.long_slots in
           record { in_row = omega arith; in_cell = omega arith; in_slot = omega arith; row_fits = omega arith; slot_fits = omega arith; cell_fits = A.cells_fit }
 
       -- A TURN: the three stores
-      pub placing_turn : {s row : ℕ} {vacant'' : List ℕ} → Slot s → Searched slotRow' start s vacant'' → length vacant'' ≡ length vacant' → row ≡ at o i → {slotRow'' slotCell'' rowSlot'' : List ℕ}
+      pub placing_turn : {s row : ℕ} {vacant'' : List ℕ} → Searched slotRow' start s vacant'' → length vacant'' ≡ length vacant' → row ≡ at o i → {slotRow'' slotCell'' rowSlot'' : List ℕ}
           → slotRow'' ≡ set slotRow' s (row + 1) → slotCell'' ≡ set slotCell' s n → rowSlot'' ≡ set rowSlot' row (s + 1)
           → Placing slot_row slot_cell row_slot vacant o n (i + 1) (s + 1) slotRow'' slotCell'' rowSlot'' vacant''
-      placing_turn {s} S F long e er ec es =
+      placing_turn {s} F long e er ec es =
+          let S = placing_slot F.found in
           let is = S.is in
           let in_pool : s < length slotRow' = omega (arith, S.low, P.long_rows) in
           rw (er, ec, es, e, add-one i, add-one s) (record {

@@ -25,15 +25,13 @@ fn place_rows(
     ensures { PlacedRows slot_row.old slot_cell.old row_slot.old rows.now place slot_row.new slot_cell.new row_slot.new vacant.new }
 {
     let mut start = 0;
-    let mut i = 0;
-    while i < rows.len() {
+    for i in 0..rows.len() {
         let row = get32(rows, i);
         let slot = lowest_free(slot_row, vacant, start);
         put32(slot_row, slot, row + 1);
         put32(slot_cell, slot, place);
         put32(row_slot, row, slot + 1);
         start = slot + 1;
-        i += 1;
     }
 }
 
@@ -58,13 +56,11 @@ fn link_rows(prev: &mut [u32], next: &mut [u32], row_slot: &[u32], rows: &[u32])
     requires { LinkAsks prev.old next.old row_slot.now rows.now }
     ensures { LinkedRows prev.old next.old row_slot.now rows.now prev.new next.new }
 {
-    let mut i = 0;
-    while i < rows.len() {
+    for i in 0..rows.len() {
         let slot = slot_at(row_slot, rows, i);
         let after = slot_at(row_slot, rows, place_after(i, rows.len()));
         put32(next, slot, after);
         put32(prev, after, slot);
-        i += 1;
     }
 }
 
@@ -108,13 +104,5 @@ pub fn hold_cell(
 pub fn count_free(slot_row: &[u32]) -> usize
     ensures { result ≡ length (free_in slot_row.now) }
 {
-    let mut free = 0;
-    let mut i = 0;
-    while i < slot_row.len() {
-        if get32(slot_row, i) == 0 {
-            free += 1;
-        }
-        i += 1;
-    }
-    free
+    slot_row.iter().filter(|row| **row == 0).count()
 }

@@ -2,7 +2,7 @@
 -- that each of them is some slot's next, and that one is its previous.
 --     ahead_all     every slot keeps its rules with the link ahead alone, just where every slot keeps all its rules
 -- Assumes nothing.
-use Prim.Native.Nat.{ℕ, suc, ◌-◌, ◌<◌}
+use Prim.Native.Nat.{ℕ, suc, ◌-◌}
 use mathlib.Core.Path.{◌≡◌, sym, ◌∙◌, ap, subst}
 use mathlib.Core.Bool.{Bool, true, false, ◌&&◌}
 use mathlib.Core.Logic.{⊎_elim}
@@ -12,7 +12,7 @@ use borrow.Author.Tests.{eq-eqb, eqb-true, lt-ltb}
 use Rattle.scope.specs.Lists.{at, passes}
 use Rattle.scope.specs.Table.{Table}
 use Rattle.scope.specs.Memory.{Memory, slots, is_used}
-use Rattle.scope.specs.Rules.{points_back, cell_kept, link_used, links_kept, reverse_free, free_kept, slot_kept}
+use Rattle.scope.specs.Rules.{points_back, cell_kept, link_used, links_kept, reverse_free, slot_kept}
 use Rattle.scope.proofs.Tests.{either, same, and_left, and_right, and_both}
 use Rattle.scope.proofs.Scan.{passes_at, passes_all}
 use Rattle.scope.proofs.Linked.{at_in, Used, used_true, true_used}

@@ -1,18 +1,26 @@
 -- Loops over a whole slice with no early end.
 --     Sweeping, sweeping_start, -more, -done     `kept` says whether a test holds at every number so far
---     Counting, counting_start, -more, -done     how many numbers so far pass
+--     count_below                                how many numbers pass, as a count over the list
+--     all_passes                                 whether all pass, as `all` over a range
 -- Assumes nothing.
-use Prim.Native.Nat.{ℕ, ◌+◌, ◌<◌, ◌≤◌}
+use Prim.Native.Nat.{ℕ, zero, suc, ◌+◌, ◌<◌, ◌≤◌}
 use mathlib.Core.Path.{◌≡◌, refl, sym, ◌∙◌, ap}
-use mathlib.Core.Bool.{Bool, true, false, ◌&&◌, cond}
+use mathlib.Core.Bool.{Bool, true, false, ◌&&◌}
 use mathlib.Core.Logic.{⊎_elim}
 use native.Mathlib.Nat.{eq-or-lt_of_le}
 use native.Mathlib.Omega.{arith}
-use lib.ListN.{length}
-use Rattle.scope.specs.Lists.{below, passes}
+use mathlib.Core.List.{List}
+use native.Mathlib.Numerals.{add-one}
+use lib.Dec.{eqb}
+use lib.ListN.{length, take}
+use lib.Seq.{take-length}
+use borrow.Author.Tests.{eq-eqb, ne_eqb}
+use Rattle.std.specs.List.{count_by, list_all, range_with_len}
+use Rattle.std.proofs.lemmas.List.Sums.{count_by_more_yes, count_by_more_no}
+use Rattle.scope.specs.Lists.{at, from, first_bad, below, passes}
 use Rattle.scope.proofs.Tests.{either, clash, and_left, and_right}
 use Rattle.scope.proofs.Scan.{passes_all, passes_not}
-use Rattle.scope.proofs.Below.{below_no, count_yes, below_count}
+use Rattle.scope.proofs.Below.{below_no, count_yes}
 
 pub record Sweeping (ok : ℕ → Bool) (n i : ℕ) (kept : Bool) : Type 0 where
   pub within : i ≤ n
@@ -47,26 +55,31 @@ module _ {ok : ℕ → Bool} {n i : ℕ} {kept : Bool} (S : Sweeping ok n i kept
 
 -- ---- counted
 
-pub record Counting (ok : ℕ → Bool) (n i count : ℕ) : Type 0 where
-  pub within : i ≤ n
-  pub so_far : count ≡ length (below ok i)
-
-pub counting_start : {ok : ℕ → Bool} {n : ℕ} → Counting ok n 0 0
+none_counted : (ok : ℕ → Bool) → length (below ok 0) ≡ 0
 unfolding below
-counting_start = record { within = omega arith; so_far = refl }
+none_counted ok = refl
 
-count_step : (ok : ℕ → Bool) (i : ℕ) → length (below ok i) + cond (ok i) 1 0 ≡ length (below ok (i + 1))
-count_step ok i = ⊎_elim
-    (λ (e : ok i ≡ true). rw e (sym (count_yes ok i e)))
-    (λ (e : ok i ≡ false). rw (e, below_no ok i e) (let n = length (below ok i) in omega arith))
+count_upto : (ok : ℕ → Bool) (xs : List ℕ) (i : ℕ) → i ≤ length xs → count_by ok (take i xs) ≡ length (below (λ k. ok (at xs k)) i)
+count_upto ok xs zero h = sym (none_counted (λ k. ok (at xs k)))
+count_upto ok xs (suc i) h = ⊎_elim
+    (λ (e : ok (at xs i) ≡ true). rw (← add-one i, count_by_more_yes ok xs i 0 (omega arith) e, count_upto ok xs i (omega arith)) (sym (count_yes (λ k. ok (at xs k)) i e)))
+    (λ (e : ok (at xs i) ≡ false). rw (← add-one i, count_by_more_no ok xs i 0 (omega arith) e, count_upto ok xs i (omega arith)) (ap length (sym (below_no (λ k. ok (at xs k)) i e))))
+    (either (ok (at xs i)))
+
+pub count_below : (ok : ℕ → Bool) (xs : List ℕ) → count_by ok xs ≡ length (below (λ k. ok (at xs k)) (length xs))
+count_below ok xs = rw take-length at (count_upto ok xs (length xs) (omega arith))
+
+-- ---- every number below n
+
+all_upto : (ok : ℕ → Bool) (n i : ℕ) → list_all ok (range_with_len i n) ≡ eqb (from ok n i) (i + n)
+unfolding from
+all_upto ok zero i = sym (eq-eqb i (i + 0) (omega arith))
+all_upto ok (suc n) i = ⊎_elim
+    (λ (e : ok i ≡ true). rw (e, add-one i) (all_upto ok n (suc i) ∙ ap (eqb (from ok n (suc i))) (omega arith)))
+    (λ (e : ok i ≡ false). rw e (sym (ne_eqb i (i + suc n) (λ q. omega arith))))
     (either (ok i))
 
-module _ {ok : ℕ → Bool} {n i count : ℕ} (C : Counting ok n i count) where
-  pub counting_more : i < n → {d : ℕ} → d ≡ cond (ok i) 1 0 → Counting ok n (i + 1) (count + d)
-  counting_more h e = record { within = omega arith; so_far = rw (C.so_far, e) (count_step ok i) }
-
-  pub counting_fits : count ≤ i
-  counting_fits = rw C.so_far (below_count ok i)
-
-  pub counting_done : n ≤ i → count ≡ length (below ok n)
-  counting_done h = let e : i ≡ n = omega (arith, C.within) in C.so_far ∙ ap (λ (k : ℕ). length (below ok k)) e
+-- as `all` over a range answers
+pub all_passes : (ok : ℕ → Bool) (n : ℕ) → list_all ok (range_with_len 0 n) ≡ passes ok n
+unfolding first_bad
+all_passes ok n = all_upto ok n 0 ∙ ap (eqb (from ok n 0)) (omega arith)

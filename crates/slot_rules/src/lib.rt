@@ -15,18 +15,16 @@ use slices::at32;
 pub fn at64(s: &[u64], i: usize) -> u64
     ensures { result ≡ at s.now i }
 {
-    if i < s.len() { s[i] } else { 0 }
+    s.get(i).map_or(0, |x| *x)
 }
 
 // The edge's owner is the cell or lies under it.
+#[tactic(auto, unfolding(scope::specs::Rules::owned_by))]
 fn owned_by(edge: u64, cell: u64) -> bool
     ensures { result ≡ owned_by edge cell }
 {
     let cell_of_edge = owner(edge);
-    if cell_of_edge == cell {
-        return true;
-    }
-    lies_under(cell_of_edge, cell)
+    (cell_of_edge == cell) || lies_under(cell_of_edge, cell)
 }
 
 fn link_used(slot_row: &[u32], slot: usize) -> bool
@@ -83,6 +81,7 @@ fn used_kept(
         & (at32(row_slot, back) == 0)
 }
 
+#[tactic(auto, unfolding(crate::specs::Slices::slot_ahead))]
 fn slot_kept(
     edges: &[u64],
     reverse: &[u32],
@@ -106,6 +105,7 @@ fn slot_kept(
     )
 }
 
+// The slices stand apart, since the caller cuts them to one length, which tells the compiler that they agree.
 // There is no early end, so that the next slot's numbers are on their way before this one's are there.
 pub fn slots_kept(
     edges: &[u64],
@@ -121,13 +121,10 @@ pub fn slots_kept(
     ensures { result ≡ passes (slot_ahead (table edges.now reverse.now []) (pool held cells.now slot_row.now slot_cell.now prev.now next.now row_slot.now)) (length slot_row.now) }
 {
     let mut kept = true;
-    let mut slot: usize = 0;
-    while slot < slot_row.len() {
-        kept = kept
-            & slot_kept(
-                edges, reverse, cells, slot_row, slot_cell, prev, next, row_slot, held, slot,
-            );
-        slot += 1;
+    for slot in 0..slot_row.len() {
+        kept &= slot_kept(
+            edges, reverse, cells, slot_row, slot_cell, prev, next, row_slot, held, slot,
+        );
     }
     kept
 }

@@ -6,21 +6,25 @@
 --     apart_found                     where every two cells differ, no cell has an equal before it
 -- Assumes nothing.
 use Prim.Native.Nat.{ℕ, ◌+◌, ◌-◌, ◌<◌, ◌≤◌}
-use mathlib.Core.Path.{◌≡◌, refl, sym, ◌∙◌, ap}
+use mathlib.Core.Path.{◌≡◌, refl, sym, ◌∙◌, ap, subst}
 use mathlib.Core.Bool.{Bool, true, false, not}
 use mathlib.Core.List.{List}
+use Rattle.std.specs.Prelude.{Option, None}
 use mathlib.Core.Logic.{◌⊎◌, inl, inr, ⊎_elim}
 use native.Mathlib.Nat.{eq-or-lt_of_le}
 use native.Mathlib.Omega.{arith}
-use lib.Dec.{eqb, ltb}
-use lib.ListN.{length, set, replicate, get_or-replicate, length-replicate, length-set, get_or-eq_default}
+use lib.Dec.{eqb}
+use lib.ListN.{length, get_or, set, replicate, get_or-replicate, length-replicate, length-set, get_or-eq_default, get_or-map, length-map}
+use Rattle.std.proofs.lemmas.List.{map-set}
 use lib.Seq.{get_or-set_same, get_or-set_other}
 use borrow.Author.Tests.{lt-ltb, le-ltb, ne_eqb, eqb-true, eqb-false, not-false}
-use Rattle.scope.specs.Lists.{at, first_bad, passes}
+use Rattle.scope.specs.Answers.{found_below}
+use Rattle.scope.specs.Lists.{at, first_bad}
 use Rattle.scope.proofs.Tests.{either, clash, le_or_lt}
 use Rattle.scope.proofs.Scan.{lowest_from, passes_all}
+use Rattle.validate.proofs.Lowest.{no_index}
 use Rattle.validate.specs.Parts.{repeats, none_before, Found}
-use Rattle.validate.specs.Chains.{seat_of, Chained, NewIn, Apart, Shows, AsksNew, AsksLink, Linked, ChainRoom}
+use Rattle.validate.specs.Chains.{seat_of, number, numbers, Chained, NewIn, Apart, Shows, AsksNew, AsksLink, Linked, ChainRoom}
 
 -- ---- the chains
 
@@ -28,11 +32,13 @@ pub seat_below : (x : ℕ) → seat_of x < 8192
 unfolding seat_of
 seat_below x = omega arith
 
-pub cleared : (n h : ℕ) → at (replicate n 0) h ≡ 0
-cleared n h = ⊎_elim
-    (λ (l : n ≤ h). get_or-eq_default (replicate n 0) 0 (let z : ℕ = 0 in rw (length-replicate n z) l))
-    (λ (l : h < n). get_or-replicate n h 0 0 l)
-    (le_or_lt n h)
+pub cleared : (n h : ℕ) → at (numbers (replicate n None)) h ≡ 0
+cleared n h =
+    let none : Option ℕ = None in
+    get_or-map number (replicate n none) h none ∙ ap number (⊎_elim
+    (λ (l : n ≤ h). get_or-eq_default (replicate n none) none (rw (length-replicate n none) l))
+    (λ (l : h < n). get_or-replicate n h none none l)
+    (le_or_lt n h))
 
 pub chained_start : {cs links heads : List ℕ} → ((h : ℕ) → at heads h ≡ 0) → Chained cs heads links 0
 chained_start clear = record {
@@ -151,14 +157,24 @@ module _ {cs heads links : List ℕ} {n : ℕ} (C : Chained cs heads links n) {x
       before : (j : ℕ) → j < last → (j ≡ last - 1) ⊎ (j < last - 1)
       before j g = eq-or-lt_of_le (omega arith)
 
+-- the same in the arrays
+module _ {cs : List ℕ} (heads links : List (Option ℕ)) {n : ℕ} (C : Chained cs (numbers heads) (numbers links) n) {x : ℕ} where
+  pub ahead_first : Ahead cs n x (number (get_or heads (seat_of x) None))
+  ahead_first = subst (λ (k : ℕ). Ahead cs n x k) (get_or-map number heads (seat_of x) None) (ahead_start C)
+
+  pub ahead_more : (before : ℕ) → Ahead cs n x (before + 1) → (at cs before ≡ x → ⊥) → Ahead cs n x (number (get_or links before None))
+  ahead_more before A d =
+      let e : before + 1 - 1 ≡ before = omega arith in
+      subst (λ (k : ℕ). Ahead cs n x k) (get_or-map number links before None) (rw e at (ahead_step C A (omega arith) (rw e d)))
+
 pub ahead_end : {cs : List ℕ} {n x last : ℕ} → Ahead cs n x last → last ≡ 0 → NewIn cs n x
 ahead_end A z = record { differs = λ j h e. A.differ j (omega arith) h e }
 
 -- ---- every two cells
 
 -- cleared arrays, with a place for every cell
-pub chain_room : {cs : List ℕ} (n : ℕ) → n ≤ 16384 → length cs ≤ n → ChainRoom cs (replicate 8192 0) (replicate n 0)
-chain_room {cs} n m h = let z : ℕ = 0 in record {
+pub chain_room : {cs : List ℕ} (n : ℕ) → n ≤ 16384 → length cs ≤ n → ChainRoom cs (replicate 8192 None) (replicate n None)
+chain_room {cs} n m h = let z : Option ℕ = None in record {
   seats = length-replicate 8192 z;
   heads_clear = cleared 8192;
   room = rw (length-replicate n z) h;
@@ -166,14 +182,14 @@ chain_room {cs} n m h = let z : ℕ = 0 in record {
 }
 
 -- the first i cells are chained, and every two of them differ
-pub record Joining (cs heads links links₀ : List ℕ) (i : ℕ) : Type 0 where
+pub record Joining (cs : List ℕ) (heads links links₀ : List (Option ℕ)) (i : ℕ) : Type 0 where
   pub heads_long : length heads ≡ 8192
   pub links_long : length links ≡ length links₀
   pub within : i ≤ length cs
-  pub chained : Chained cs heads links i
+  pub chained : Chained cs (numbers heads) (numbers links) i
   pub apart : (k : ℕ) → k < i → NewIn cs k (at cs k)
 
-module _ {cs heads₀ links₀ : List ℕ} (R : ChainRoom cs heads₀ links₀) where
+module _ {cs : List ℕ} {heads₀ links₀ : List (Option ℕ)} (R : ChainRoom cs heads₀ links₀) where
   pub joining_start : Joining cs heads₀ links₀ links₀ 0
   joining_start = record {
     heads_long = R.seats;
@@ -183,7 +199,7 @@ module _ {cs heads₀ links₀ : List ℕ} (R : ChainRoom cs heads₀ links₀) 
     apart = λ k h. absurd (omega arith);
   }
 
-  module _ {heads links : List ℕ} {i : ℕ} (J : Joining cs heads links links₀ i) where
+  module _ {heads links : List (Option ℕ)} {i : ℕ} (J : Joining cs heads links links₀ i) where
     pub joining_asks : i < length cs → AsksNew cs heads links i
     joining_asks h = record {
       seats = J.heads_long;
@@ -196,12 +212,13 @@ module _ {cs heads₀ links₀ : List ℕ} (R : ChainRoom cs heads₀ links₀) 
     joining_room h = record { seats = J.heads_long; room = omega (arith, J.links_long, R.room); few = omega (arith, R.few) }
 
     pub joining_more : i < length cs → {b : Bool} → Shows b (NewIn cs i (at cs i)) → not b ≡ false
-        → {heads' links' : List ℕ} → Linked (at cs i) i heads links heads' links' → Joining cs heads' links' links₀ (i + 1)
+        → {heads' links' : List (Option ℕ)} → Linked (at cs i) i heads links heads' links' → Joining cs heads' links' links₀ (i + 1)
     joining_more h {b} S t {heads'} {links'} L = record {
       heads_long = rw (L.heads_is, length-set) J.heads_long;
       links_long = rw (L.links_is, length-set) J.links_long;
       within = omega arith;
-      chained = rw (L.heads_is, L.links_is) (chained_more J.chained (rw J.heads_long (seat_below (at cs i))) (omega (arith, J.links_long, R.room)));
+      chained = rw (L.heads_is, L.links_is, map-set number heads, map-set number links, ← get_or-map number heads (seat_of (at cs i)) None)
+          (chained_more J.chained (rw (length-map heads number, J.heads_long) (seat_below (at cs i))) (rw (length-map links number) (omega (arith, J.links_long, R.room))));
       apart = λ k l. ⊎_elim
           (λ (e : k ≡ i). rw e (S.shown (not-false b t)))
           (λ (e : k < i). J.apart k e)
@@ -211,14 +228,12 @@ module _ {cs heads₀ links₀ : List ℕ} (R : ChainRoom cs heads₀ links₀) 
         le_of : {k : ℕ} → k < i + 1 → k ≤ i
         le_of l = omega arith
 
-pub joining_end : {cs heads links links₀ : List ℕ} {i : ℕ} → Joining cs heads links links₀ i → length cs ≤ i → Apart cs
+pub joining_end : {cs : List ℕ} {heads links links₀ : List (Option ℕ)} {i : ℕ} → Joining cs heads links links₀ i → length cs ≤ i → Apart cs
 joining_end J h = record { differ = λ k l. J.apart k (omega arith) }
 
-pub apart_found : {cs : List ℕ} {mixed : Bool} → Apart cs → mixed ≡ false → Found cs (length cs) mixed (length cs) (length cs)
+pub apart_found : {cs : List ℕ} {mixed : Bool} → Apart cs → mixed ≡ false → Found cs (length cs) mixed None None
 apart_found {cs} {mixed} A m = record {
-  second_is = lowest_from (none_before (repeats cs) (length cs)) (length cs) (length cs) (omega arith)
-      (λ k h e. absurd (clash (passes_all (λ j. not (repeats cs k j)) (length cs) (λ j l. none k j h)) e))
-      (λ h. absurd (omega arith));
+  second_is = sym (ap (found_below (length cs)) (sym last) ∙ no_index (length cs));
   nested_is = sym (rw m);
 }
   where
@@ -227,3 +242,8 @@ apart_found {cs} {mixed} A m = record {
         (λ (g : i ≤ j). rw (le-ltb j i g))
         (λ (g : j < i). rw (lt-ltb j i g, ne_eqb (at cs j) (at cs i) ((A.differ i h).differs j g)))
         (le_or_lt i j)
+
+    last : length cs ≡ first_bad (none_before (repeats cs) (length cs)) (length cs)
+    last = lowest_from (none_before (repeats cs) (length cs)) (length cs) (length cs) (omega arith)
+        (λ k h e. absurd (clash (passes_all (λ j. not (repeats cs k j)) (length cs) (λ j l. none k j h)) e))
+        (λ h. absurd (omega arith))

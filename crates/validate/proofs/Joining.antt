@@ -3,24 +3,27 @@
 --     against_even, against_mixed     a part's scans, over the list
 --     found_start, found_more   the lowest clashes over more and more parts; found-second: over all of them
 -- Assumes nothing.
-use Prim.Native.Nat.{ℕ, ◌+◌, ◌-◌, ◌<◌, ◌≤◌, min}
-use mathlib.Core.Path.{◌≡◌, refl, sym, ◌∙◌, ap}
+use Prim.Native.Nat.{ℕ, ◌+◌, ◌-◌, ◌*◌, ◌<◌, ◌≤◌, min}
+use mathlib.Core.Path.{◌≡◌, refl, sym, ◌∙◌, ap, subst}
 use mathlib.Core.Bool.{Bool, true, false, ◌&&◌, not, cond}
-use mathlib.Core.List.{List}
+use mathlib.Core.List.{List, ◌++◌}
 use mathlib.Core.Logic.{⊎_elim}
 use native.Mathlib.Decide.{dec_lt}
 use native.Mathlib.Omega.{arith}
 use lib.Dec.{eqb, ltb}
-use lib.ListN.{length, drop, length-take, length-drop}
-use lib.Seq.{get_or-take, get_or-drop}
+use lib.ListN.{length, length-append, get_or-append}
+use Rattle.std.proofs.lemmas.List.{get_or-append-add}
 use borrow.Author.Tests.{lt-ltb, le-ltb, not-true, not-false}
+use Rattle.std.specs.Prelude.{Option, None}
+use Rattle.validate.proofs.Lowest.{no_index, lower_is}
+use Rattle.scope.specs.Answers.{found_below}
 use Rattle.scope.specs.Lists.{at, first_bad, passes}
 use Rattle.scope.specs.CellLists.{differs, first_of_its_kind, not_under}
 use Rattle.scope.proofs.Tests.{clash, same, le_or_lt}
 use Rattle.scope.proofs.Scan.{first_bad_lowest, first_bad_same, lowest_from, passes_at, passes_all, passes_not, passes_fails, Going}
 use Rattle.validate.specs.Sorting.{InOrder}
 use Rattle.cell_lookup.specs.Lookup.{differs_before, Ordered}
-use Rattle.validate.specs.Parts.{repeats, nests, none_of, none_before, Against, Found, part_of, new_against, clear_against, PartIn}
+use Rattle.validate.specs.Parts.{lowest, lower, repeats, nests, none_of, none_before, Against, Found, new_against, clear_against, PartIn, AllValid}
 
 -- ---- a part, and the list
 
@@ -38,20 +41,17 @@ shifted j start i = elim (dec_lt (start + j) i) [
   | no h ↦ le-ltb j (i - start) (omega arith) ∙ sym (le-ltb (start + j) i (omega arith))
 ]
 
-module _ (cs : List ℕ) (start end : ℕ) (P : PartIn cs start end) where
-  abbrev part : List ℕ
-  part = part_of cs start end
+module _ (cs part : List ℕ) (start : ℕ) (P : PartIn cs part start) where
+  abbrev end : ℕ
+  end = start + length part
 
   size : length part ≡ end - start
-  size = simp (length-take, length-drop) (omega (arith, P.order, P.within))
-
-  cell : (j : ℕ) → j < length part → at part j ≡ at cs (start + j)
-  cell j h = let l : j < end - start = omega (arith, size) in rw (get_or-take (end - start) (drop start cs) j 0 l, get_or-drop)
+  size = omega arith
 
   pub part_ordered : {a₀ a : List ℕ} → InOrder part a₀ a → Ordered part a
   part_ordered S = record {
-    few = omega (arith, size, P.few);
-    valid = λ j h. rw (cell j h) (P.valid (start + j) (omega (arith, size, P.within)));
+    few = P.few;
+    valid = λ j h. rw (P.same j h) (P.valid (start + j) (omega (arith, P.within)));
     sorted = S.sorted;
   }
 
@@ -59,18 +59,18 @@ module _ (cs : List ℕ) (start end : ℕ) (P : PartIn cs start end) where
   over_part : (ok ko : ℕ → Bool) → ((j : ℕ) → j < length part → ok j ≡ ko j) → passes ok (length part) ≡ passes ko (end - start)
   over_part ok ko e = ap (λ (r : ℕ). eqb r (length part)) (first_bad_same ok ko (length part) e) ∙ ap (passes ko) size
 
-  second_of : first_bad (new_against part cs start) (length cs) ≡ first_bad (none_of (repeats cs) start end) (length cs)
-  second_of = first_bad_same _ _ (length cs) (λ i h.
-      over_part (differs_before part (at cs i) (i - start)) (λ j. not (repeats cs i (start + j))) (λ j l. rw (shifted j start i, cell j l)))
+  second_of : lowest (new_against part cs start) (length cs) ≡ lowest (none_of (repeats cs) start end) (length cs)
+  second_of = ap (found_below (length cs)) (first_bad_same _ _ (length cs) (λ i h.
+      over_part (differs_before part (at cs i) (i - start)) (λ j. not (repeats cs i (start + j))) (λ j l. rw (shifted j start i, P.same j l))))
 
-  nested_of : first_bad (clear_against part cs) (length cs) ≡ first_bad (none_of (nests cs) start end) (length cs)
-  nested_of = first_bad_same _ _ (length cs) (λ i h. over_part (not_under part (at cs i)) (λ j. not (nests cs i (start + j))) (λ j l. rw (cell j l)))
+  nested_of : lowest (clear_against part cs) (length cs) ≡ lowest (none_of (nests cs) start end) (length cs)
+  nested_of = ap (found_below (length cs)) (first_bad_same _ _ (length cs) (λ i h. over_part (not_under part (at cs i)) (λ j. not (nests cs i (start + j))) (λ j l. rw (P.same j l))))
 
-  module _ {second : ℕ} (s : second ≡ first_bad (new_against part cs start) (length cs)) where
-    pub against_even : {mixed : Bool} → not mixed ≡ true → Against cs start end mixed second (length cs)
+  module _ {second : Option ℕ} (s : second ≡ lowest (new_against part cs start) (length cs)) where
+    pub against_even : {mixed : Bool} → not mixed ≡ true → Against cs start end mixed second None
     against_even {mixed} m = record { second_is = s ∙ second_of; nested_is = sym (rw (not-true mixed m)) }
 
-    pub against_mixed : {mixed : Bool} {nested : ℕ} → not mixed ≡ false → nested ≡ first_bad (clear_against part cs) (length cs) → Against cs start end mixed second nested
+    pub against_mixed : {mixed : Bool} {nested : Option ℕ} → not mixed ≡ false → nested ≡ lowest (clear_against part cs) (length cs) → Against cs start end mixed second nested
     against_mixed {mixed} m e = record { second_is = s ∙ second_of; nested_is = e ∙ nested_of ∙ sym (rw (not-false mixed m)) }
 
 -- ---- the parts, one after the other
@@ -129,29 +129,84 @@ none_clash bad n = lowest_from (none_before bad 0) n n (omega arith)
     (λ k h e. absurd (clash (passes_all (λ j. not (bad k j)) 0 (λ j l. absurd (omega arith))) e))
     (λ h. absurd (omega arith))
 
-pub found_start : (cs : List ℕ) (mixed : Bool) → Found cs 0 mixed (length cs) (length cs)
-found_start cs true = record { second_is = none_clash (repeats cs) (length cs); nested_is = none_clash (nests cs) (length cs) }
-found_start cs false = record { second_is = none_clash (repeats cs) (length cs); nested_is = refl }
+none_lowest : (bad : ℕ → ℕ → Bool) (n : ℕ) → None ≡ lowest (none_before bad 0) n
+none_lowest bad n = sym (ap (found_below n) (sym (none_clash bad n)) ∙ no_index n)
 
-pub found_more : {cs : List ℕ} {start end : ℕ} {mixed : Bool} {s m t k : ℕ} → start ≤ end → Found cs start mixed s m → Against cs start end mixed t k
-    → {a b : ℕ} → a ≡ min s t → b ≡ min m k → Found cs end mixed a b
+pub found_start : (cs : List ℕ) (mixed : Bool) → Found cs 0 mixed None None
+found_start cs true = record { second_is = none_lowest (repeats cs) (length cs); nested_is = none_lowest (nests cs) (length cs) }
+found_start cs false = record { second_is = none_lowest (repeats cs) (length cs); nested_is = refl }
+
+lowest_join : (bad : ℕ → ℕ → Bool) (start end n : ℕ) → start ≤ end → lower (lowest (none_before bad start) n) (lowest (none_of bad start end) n) ≡ lowest (none_before bad end) n
+lowest_join bad start end n h = lower_is n _ _ ∙ ap (found_below n) (join bad start end n h)
+
+pub found_more : {cs : List ℕ} {start end : ℕ} {mixed : Bool} {s m t k : Option ℕ} → start ≤ end → Found cs start mixed s m → Against cs start end mixed t k
+    → {a b : Option ℕ} → a ≡ lower s t → b ≡ lower m k → Found cs end mixed a b
 found_more {cs} {start} {end} {mixed} {s} {m} {t} {k} h F A {a} {b} ea eb = record {
-  second_is = ea ∙ rw (F.second_is, A.second_is) (join (repeats cs) start end (length cs) h);
+  second_is = ea ∙ rw (F.second_is, A.second_is) (lowest_join (repeats cs) start end (length cs) h);
   nested_is = eb ∙ nested mixed F.nested_is A.nested_is;
 }
   where
-    nested : (x : Bool) → m ≡ cond x (first_bad (none_before (nests cs) start) (length cs)) (length cs)
-        → k ≡ cond x (first_bad (none_of (nests cs) start end) (length cs)) (length cs)
-        → min m k ≡ cond x (first_bad (none_before (nests cs) end) (length cs)) (length cs)
-    nested true p q = rw (p, q) (join (nests cs) start end (length cs) h)
-    nested false p q = omega arith
+    nested : (x : Bool) → m ≡ cond x (lowest (none_before (nests cs) start) (length cs)) None
+        → k ≡ cond x (lowest (none_of (nests cs) start end) (length cs)) None
+        → lower m k ≡ cond x (lowest (none_before (nests cs) end) (length cs)) None
+    nested true p q = rw (p, q) (lowest_join (nests cs) start end (length cs) h)
+    nested false p q = rw (p, q)
+
+-- a walk over the parts: `count` are done, and `rest` is to come
+pub record Parting (cs : List ℕ) (mixed : Bool) (size count : ℕ) (rest : List ℕ) (second nested : Option ℕ) : Type 0 where
+  pub size_is : size ≡ 16384
+  pub within : length rest ≤ length cs
+  pub start : 0 < length rest → count * 16384 ≡ length cs - length rest
+  pub same : (j : ℕ) → j < length rest → at rest j ≡ at cs (length cs - length rest + j)
+  pub found : Found cs (length cs - length rest) mixed second nested
+
+pub parting_start : {cs rest : List ℕ} {mixed : Bool} {size count : ℕ} → size ≡ 16384 → count ≡ 0 → rest ≡ cs → Parting cs mixed size count rest None None
+parting_start {cs} {rest} {mixed} {size} {count} s n e =
+    let none : length cs - length cs ≡ 0 = omega arith in
+    rw e (record {
+      size_is = s;
+      within = omega arith;
+      start = λ h. omega arith;
+      same = λ j h. ap (at cs) (omega arith);
+      found = rw none (found_start cs mixed);
+    })
+
+module _ {cs rest : List ℕ} (part rest' : List ℕ) {mixed : Bool} {size count : ℕ} {second nested : Option ℕ} (P : Parting cs mixed size count rest second nested)
+    (cut : rest ≡ part ++ rest') (long : length part ≡ min size (length rest)) (some : 0 < length rest) where
+  lengths : length rest ≡ length part + length rest'
+  lengths = ap length cut ∙ length-append part rest'
+
+  pub parting_part : AllValid cs → {k : ℕ} → k ≡ count → PartIn cs part (k * 16384)
+  parting_part V {k} e =
+      let s = P.start some in
+      rw e (record {
+        valid = V;
+        within = omega (arith, s, lengths, P.within);
+        same = λ j h. sym (ap (λ (l : List ℕ). at l j) cut ∙ get_or-append part rest' 0 j h) ∙ P.same j (omega (arith, lengths)) ∙ ap (at cs) (omega arith);
+        few = omega (arith, P.size_is);
+      })
+
+  pub parting_more : {k count' size' : ℕ} → k ≡ count → count' ≡ count + 1 → size' ≡ size → {t m a b : Option ℕ}
+      → Against cs (k * 16384) (k * 16384 + length part) mixed t m → a ≡ lower second t → b ≡ lower nested m
+      → Parting cs mixed size' count' rest' a b
+  parting_more {k} {count'} {size'} ek ec es {t} {m} {a} {b} A ea eb =
+      let s = P.start some in
+      let k_is : k * 16384 ≡ length cs - length rest = ap (λ (i : ℕ). i * 16384) ek ∙ s in
+      let to : k * 16384 + length part ≡ length cs - length rest' = omega (arith, lengths, P.within) in
+      record {
+        size_is = es ∙ P.size_is;
+        within = omega (arith, lengths, P.within);
+        start = λ h. omega (arith, lengths, P.within, P.size_is);
+        same = λ j h. sym (ap (λ (l : List ℕ). at l (length part + j)) cut ∙ get_or-append-add part rest' j 0) ∙ P.same (length part + j) (omega (arith, lengths)) ∙ ap (at cs) (omega (arith, lengths, P.within));
+        found = subst (λ (e : ℕ). Found cs e mixed a b) to (found_more (omega arith) (subst (λ (i : ℕ). Found cs i mixed second nested) (sym k_is) P.found) A ea eb);
+      }
 
 -- over the whole list
-pub found_second : {cs : List ℕ} {mixed : Bool} {s m : ℕ} → Found cs (length cs) mixed s m → s ≡ first_bad (first_of_its_kind cs) (length cs)
-found_second {cs} F = F.second_is ∙ first_bad_same _ _ (length cs) (λ i h. same _ _
+pub found_second : {cs : List ℕ} {mixed : Bool} {s m : Option ℕ} → Found cs (length cs) mixed s m → s ≡ lowest (first_of_its_kind cs) (length cs)
+found_second {cs} F = F.second_is ∙ ap (found_below (length cs)) (first_bad_same _ _ (length cs) (λ i h. same _ _
     (λ e. passes_all (differs cs (at cs i)) i (λ j l.
     rw (lt-ltb j i l) at (passes_at (λ k. not (repeats cs i k)) (length cs) e j (omega arith))))
     (λ e. passes_all (λ k. not (repeats cs i k)) (length cs) (λ j l. ⊎_elim
     (λ (g : i ≤ j). rw (le-ltb j i g))
     (λ (g : j < i). rw (lt-ltb j i g) (passes_at (differs cs (at cs i)) i e j g))
-    (le_or_lt i j))))
+    (le_or_lt i j)))))

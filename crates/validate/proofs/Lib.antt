@@ -1,6 +1,6 @@
 -- Laws that the proofs of this crate cite.
-pub mod Swaps
-pub mod Heaps
+pub mod Ranking
+pub mod Lowest
 pub mod Raising
 pub mod Joining
 pub mod Stages

@@ -1,14 +1,22 @@
 -- The cells of a list in chains, one for each seat: for each seat the last index with it, for each index the one before it with the same
--- seat. Numbers in `heads` and `links` are an index plus 1, and 0 for none.
+-- seat, where there are any. Here an index is numbered from 1, and none is 0.
 --     seat_of          a cell's seat, 0 to 8,191
+--     number          an index plus 1, 0 for none
 --     Chained         the chains of the first cells: between two links of a chain no index has its seat
 --     NewIn, Apart    a cell is none of the first ones; every two cells differ
 -- Assumes nothing.
-use Rattle.std.specs.Prelude.{ℕ, ◌+◌, ◌-◌, ◌*◌, ◌/◌, ◌%◌, ◌^◌, ◌<◌, ◌≤◌, ◌≡◌, Bool, true, List, length, set}
+use Rattle.std.specs.Prelude.{ℕ, ◌+◌, ◌-◌, ◌*◌, ◌/◌, ◌%◌, ◌^◌, ◌<◌, ◌≤◌, ◌≡◌, Bool, true, Option, None, Some, List, length, get_or, set, map}
 use Rattle.scope.specs.Lists.{at}
 
 unfoldable pub seat_of : ℕ → ℕ
 seat_of x = (x % 2 ^ 32 * 1640531527 + x / 2 ^ 32 % 2 ^ 20 * 73244475) / 2 ^ 19 % 8192
+
+abbrev pub number : Option ℕ → ℕ
+number None = 0
+number (Some i) = i + 1
+
+abbrev pub numbers : List (Option ℕ) → List ℕ
+numbers = map number
 
 pub record Chained (cs heads links : List ℕ) (n : ℕ) : Type 0 where
   pub head_gap : (h j : ℕ) → at heads h ≤ j → j < n → seat_of (at cs j) ≡ h → ⊥
@@ -30,23 +38,23 @@ pub record Shows (b : Bool) (P : Type 0) : Type 0 where
 
 -- ---- what the steps ask for and leave
 
-pub record AsksNew (cs heads links : List ℕ) (n : ℕ) : Type 0 where
+pub record AsksNew (cs : List ℕ) (heads links : List (Option ℕ)) (n : ℕ) : Type 0 where
   pub seats : length heads ≡ 8192
   pub room : n ≤ length links
   pub within : n ≤ length cs
-  pub chained : Chained cs heads links n
+  pub chained : Chained cs (numbers heads) (numbers links) n
 
-pub record AsksLink (heads links : List ℕ) (i : ℕ) : Type 0 where
+pub record AsksLink (heads links : List (Option ℕ)) (i : ℕ) : Type 0 where
   pub seats : length heads ≡ 8192
   pub room : i < length links
   pub few : i < 16384
 
-pub record Linked (x i : ℕ) (heads₀ links₀ heads links : List ℕ) : Type 0 where
-  pub links_is : links ≡ set links₀ i (at heads₀ (seat_of x))
-  pub heads_is : heads ≡ set heads₀ (seat_of x) (i + 1)
+pub record Linked (x i : ℕ) (heads₀ links₀ heads links : List (Option ℕ)) : Type 0 where
+  pub links_is : links ≡ set links₀ i (get_or heads₀ (seat_of x) None)
+  pub heads_is : heads ≡ set heads₀ (seat_of x) (Some i)
 
-pub record ChainRoom (cs heads links : List ℕ) : Type 0 where
+pub record ChainRoom (cs : List ℕ) (heads links : List (Option ℕ)) : Type 0 where
   pub seats : length heads ≡ 8192
-  pub heads_clear : (h : ℕ) → at heads h ≡ 0
+  pub heads_clear : (h : ℕ) → at (numbers heads) h ≡ 0
   pub room : length cs ≤ length links
   pub few : length cs ≤ 16384

@@ -3,8 +3,6 @@
 ghost use Rattle.std.specs.Prelude.{◌≡◌, ◌<◌, ◌≤◌, length};
 ghost use Rattle.validate.specs.Chains.{seat_of, NewIn, Shows, AsksNew, AsksLink, Linked, ChainRoom, Apart};
 
-use slices::{get32, put32};
-
 // The number of seats, and of steps along a chain.
 const SEATS: usize = 8192;
 
@@ -24,69 +22,56 @@ fn seat(x: u64) -> usize
     (((low + high) >> 19) % 8192) as usize
 }
 
-// None of the cells in the chains is x. Numbers in the two arrays are an index plus 1, and 0 for none.
-fn is_new(heads: &[u32], links: &[u32], cells: &[u64], x: u64, count: usize) -> bool
+// None of the cells in the chains is x.
+fn is_new(heads: &[Option<u16>], links: &[Option<u16>], cells: &[u64], x: u64, count: usize) -> bool
     requires { AsksNew cells.now heads.now links.now count }
     ensures { Shows result (NewIn cells.now count x) }
 {
-    let mut last = get32(heads, seat(x));
-    let mut left = STEPS;
-    while 0 < left {
-        if last == 0 {
+    let mut last = heads[seat(x)];
+    for _step in 0..STEPS {
+        let Some(before) = last else {
             return true;
-        }
-        let before = last - 1;
-        if cells[before] == x {
+        };
+        if cells[before as usize] == x {
             return false;
         }
-        last = get32(links, before);
-        left -= 1;
+        last = links[before as usize];
     }
     false
 }
 
 // Cell `i` at the head of its seat's chain.
-fn link(heads: &mut [u32], links: &mut [u32], x: u64, i: usize)
+fn link(heads: &mut [Option<u16>], links: &mut [Option<u16>], x: u64, i: usize)
     requires { AsksLink heads.old links.old i }
     ensures { Linked x i heads.old links.old heads.new links.new }
 {
     let s = seat(x);
-    put32(links, i, get32(heads, s));
-    put32(heads, s, i + 1);
+    links[i] = heads[s];
+    heads[s] = Some(i as u16);
 }
 
-fn differ(heads: &mut [u32], links: &mut [u32], cells: &[u64]) -> bool
+fn differ(heads: &mut [Option<u16>], links: &mut [Option<u16>], cells: &[u64]) -> bool
     requires { ChainRoom cells.now heads.old links.old }
     ensures { Shows result (Apart cells.now) }
 {
-    let mut i: usize = 0;
-    while i < cells.len() {
+    for i in 0..cells.len() {
         let x = cells[i];
         if !is_new(heads, links, cells, x, i) {
             return false;
         }
         link(heads, links, x, i);
-        i += 1;
     }
     true
 }
 
 // A local array is cleared at every call, so short lists have a short one.
-fn few_differ(cells: &[u64]) -> bool
-    requires { length cells.now ≤ 1024 }
+fn differ_within<const ROOM: usize>(cells: &[u64]) -> bool
+    requires few { ROOM ≤ 16384 }
+    requires room { length cells.now ≤ ROOM }
     ensures { Shows result (Apart cells.now) }
 {
-    let mut heads = [0u32; SEATS];
-    let mut links = [0u32; FEW];
-    differ(&mut heads, &mut links, cells)
-}
-
-fn many_differ(cells: &[u64]) -> bool
-    requires { length cells.now ≤ 16384 }
-    ensures { Shows result (Apart cells.now) }
-{
-    let mut heads = [0u32; SEATS];
-    let mut links = [0u32; MANY];
+    let mut heads = [None; SEATS];
+    let mut links = [None; ROOM];
     differ(&mut heads, &mut links, cells)
 }
 
@@ -95,10 +80,10 @@ pub fn all_differ(cells: &[u64]) -> bool
     ensures { Shows result (Apart cells.now) }
 {
     if cells.len() <= FEW {
-        return few_differ(cells);
+        return differ_within::<FEW>(cells);
     }
     if cells.len() <= MANY {
-        return many_differ(cells);
+        return differ_within::<MANY>(cells);
     }
     false
 }

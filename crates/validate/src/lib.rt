@@ -3,8 +3,8 @@
 #![tactic(auto)]
 
 ghost use Rattle.std.specs.Prelude.{◌≡◌, length};
-ghost use Rattle.scope.specs.Lists.{first_bad};
 ghost use Rattle.scope.specs.CellLists.{valid_at, resolution_fits, resolution_fits_at, room_for, list_verdict, cell_verdict};
+ghost use Rattle.validate.specs.Parts.{lowest};
 
 mod chains;
 mod parts;
@@ -14,7 +14,7 @@ mod tops;
 use cell_lookup::{first_under, is_unheld, lies_under_none};
 use index::{is_cell, resolution};
 use parts::lowest_clashes;
-use scope::Verdict;
+use scope::Refusal;
 
 // Even mode wants the target's resolution, mixed mode none finer.
 fn resolution_fits(mode: usize, target: usize, x: u64) -> bool
@@ -26,101 +26,93 @@ fn resolution_fits(mode: usize, target: usize, x: u64) -> bool
     resolution(x) <= target
 }
 
-fn room_for(capacity: usize, n: usize) -> Verdict
+fn room_for(capacity: usize, n: usize) -> Result<(), Refusal>
     ensures { result ≡ room_for capacity n }
 {
     if n <= capacity {
-        return Verdict::Accepted;
+        Ok(())
+    } else {
+        Err(Refusal::TooManyCells)
     }
-    Verdict::Refused(8, 0)
 }
 
-fn invalid_cell(cells: &[u64]) -> usize
-    ensures { result ≡ first_bad (valid_at cells.now) (length cells.now) }
+fn invalid_cell(cells: &[u64]) -> Option<usize>
+    ensures { result ≡ lowest (valid_at cells.now) (length cells.now) }
 {
-    let mut i: usize = 0;
-    while i < cells.len() {
-        if !is_cell(cells[i]) {
-            return i;
-        }
-        i += 1;
-    }
-    i
+    cells.iter().position(|x| !is_cell(*x))
 }
 
-fn unfit_cell(cells: &[u64], mode: usize, target: usize) -> usize
-    ensures { result ≡ first_bad (resolution_fits_at mode target cells.now) (length cells.now) }
+fn unfit_cell(cells: &[u64], mode: usize, target: usize) -> Option<usize>
+    ensures { result ≡ lowest (resolution_fits_at mode target cells.now) (length cells.now) }
 {
-    let mut i: usize = 0;
-    while i < cells.len() {
-        if !resolution_fits(mode, target, cells[i]) {
-            return i;
-        }
-        i += 1;
-    }
-    i
+    cells
+        .iter()
+        .position(|x| !resolution_fits(mode, target, *x))
 }
 
 // A whole list. Mode 0 is even; any other is mixed.
-pub fn validate(cells: &[u64], mode: usize, target: usize, capacity: usize) -> Verdict
+pub fn validate(cells: &[u64], mode: usize, target: usize, capacity: usize) -> Result<(), Refusal>
     ensures { result ≡ list_verdict mode target capacity cells.now }
 {
-    let n = cells.len();
-    let invalid = invalid_cell(cells);
-    if invalid < n {
-        return Verdict::Refused(2, invalid);
+    if let Some(i) = invalid_cell(cells) {
+        return Err(Refusal::InvalidCell(i));
     }
     let clashes = lowest_clashes(cells, mode != 0);
-    if clashes.second < n {
-        return Verdict::Refused(3, clashes.second);
+    if let Some(i) = clashes.second {
+        return Err(Refusal::DuplicateInput(i));
     }
-    let unfit = unfit_cell(cells, mode, target);
-    if unfit < n {
-        return Verdict::Refused(4, unfit);
+    if let Some(i) = unfit_cell(cells, mode, target) {
+        return Err(Refusal::UnsupportedResolution(i));
     }
-    if clashes.nested < n {
-        return Verdict::Refused(3, clashes.nested);
+    if let Some(i) = clashes.nested {
+        return Err(Refusal::DuplicateInput(i));
     }
-    room_for(capacity, n)
+    room_for(capacity, cells.len())
 }
 
 // Cells of the target's resolution.
-pub fn validate_homogeneous(cells: &[u64], target: usize, capacity: usize) -> Verdict
+pub fn validate_homogeneous(cells: &[u64], target: usize, capacity: usize) -> Result<(), Refusal>
     ensures { result ≡ list_verdict 0 target capacity cells.now }
 {
     validate(cells, 0, target, capacity)
 }
 
 // Cells of mixed resolutions, none finer than the target and none under another.
-pub fn validate_heterogeneous(cells: &[u64], target: usize, capacity: usize) -> Verdict
+pub fn validate_heterogeneous(cells: &[u64], target: usize, capacity: usize) -> Result<(), Refusal>
     ensures { result ≡ list_verdict 1 target capacity cells.now }
 {
     validate(cells, 1, target, capacity)
 }
 
 // One cell against the held ones, in linear time.
-pub fn validate_cell(held: &[u64], x: u64, mode: usize, target: usize, capacity: usize) -> Verdict
+#[tactic(auto, using(std::proofs::lemmas::Bool::Decides::nat_tests), unfolding(scope::specs::CellLists::cell_verdict))]
+pub fn validate_cell(
+    held: &[u64],
+    x: u64,
+    mode: usize,
+    target: usize,
+    capacity: usize,
+) -> Result<(), Refusal>
     ensures { result ≡ cell_verdict mode target capacity held.now x }
 {
     let n = held.len();
     if !is_cell(x) {
-        return Verdict::Refused(2, n);
+        return Err(Refusal::InvalidCell(n));
     }
     if !is_unheld(held, x) {
-        return Verdict::Refused(3, n);
+        return Err(Refusal::DuplicateInput(n));
     }
     if !resolution_fits(mode, target, x) {
-        return Verdict::Refused(4, n);
+        return Err(Refusal::UnsupportedResolution(n));
     }
     if mode == 0 {
         return room_for(capacity, n + 1);
     }
-    let under = first_under(held, x);
-    if under < n {
-        return Verdict::Refused(3, under);
+    if let Some(under) = first_under(held, x) {
+        return Err(Refusal::DuplicateInput(under));
     }
     if !lies_under_none(held, x) {
-        return Verdict::Refused(3, n);
+        return Err(Refusal::DuplicateInput(n));
     }
     room_for(capacity, n + 1)
 }

@@ -10,10 +10,9 @@ pub fn raise(order: &mut [u32], part: &[u64])
     requires { Ordered part.now order.old }
     ensures { Raised part.now order.new }
 {
-    let mut p = part.len();
-    let mut top = p;
-    while 0 < p {
-        p -= 1;
+    // Where there is no top yet it is the number of cells, as `top_over` takes it.
+    let mut top = part.len();
+    for p in (0..part.len()).rev() {
         top = top_over(order, part, p, top);
         put32(order, p, top);
     }

@@ -1,10 +1,7 @@
 -- `placing::link_rows` meets its contract: each turn is the next of the definition's stores (Linking).
 -- Assumes nothing.
-use native.Mathlib.Omega.{arith}
-use Prim.Native.Nat.{◌<◌}
-use lib.ListN.{length}
 use Rattle.scope.proofs.Outlines.{onward, onward_lt}
-use Rattle.placing.proofs.Linking.{slot_asks, slot_low, linking_turn, linking_end}
+use Rattle.placing.proofs.Linking.{slot_asks, linking_fits, linking_turn, linking_end}
 use Rattle.placing.proofs.link_rows.Goals as goal
 
 pub slot_at-after-requires : goal.slot_at-after-requires
@@ -13,19 +10,13 @@ slot_at-after-requires c =
 
 pub put32-requires : goal.put32-requires
 put32-requires c =
-    let after-in : c.slot_at-after.result < length c.args.next.now =
-    rw (c.slot_at-after.ensures, c.place_after.ensures) (slot_low c.requires (onward _ c.loop-i.i) (onward_lt _ c.loop-i.i c.loop-i-test.true)) in
-    let slot-in : c.slot_at-slot.result < length c.args.next.now =
-    rw c.slot_at-slot.ensures (slot_low c.requires c.loop-i.i c.loop-i-test.true) in
-    (let p = c.requires in let s = slot-in in let t = after-in in let l = c.loop-i.invariant in omega (arith, p.even, p.fits, l.long_next, l.long_prev), let p = c.requires in let s = slot-in in let t = after-in in let l = c.loop-i.invariant in omega (arith, p.even, p.fits, l.long_next, l.long_prev))
+    let f = linking_fits c.requires c.loop-i.invariant c.loop-i-test.true c.slot_at-slot.ensures c.place_after.ensures c.slot_at-after.ensures in
+    (f.in_next, f.next_fits)
 
 pub put32-requires-in-loop-i : goal.put32-requires-in-loop-i
 put32-requires-in-loop-i c =
-    let after-in : c.slot_at-after.result < length c.args.next.now =
-    rw (c.slot_at-after.ensures, c.place_after.ensures) (slot_low c.requires (onward _ c.loop-i.i) (onward_lt _ c.loop-i.i c.loop-i-test.true)) in
-    let slot-in : c.slot_at-slot.result < length c.args.next.now =
-    rw c.slot_at-slot.ensures (slot_low c.requires c.loop-i.i c.loop-i-test.true) in
-    (let p = c.requires in let s = slot-in in let t = after-in in let l = c.loop-i.invariant in omega (arith, p.even, p.fits, l.long_next, l.long_prev), let p = c.requires in let s = slot-in in let t = after-in in let l = c.loop-i.invariant in omega (arith, p.even, p.fits, l.long_next, l.long_prev))
+    let f = linking_fits c.requires c.loop-i.invariant c.loop-i-test.true c.slot_at-slot.ensures c.place_after.ensures c.slot_at-after.ensures in
+    (f.in_prev, f.prev_fits)
 
 pub loop-i-preserved : goal.loop-i-preserved
 loop-i-preserved c =

@@ -1,12 +1,7 @@
 -- The loop of `placing::place_rows`.
-use Prim.Native.Nat.{◌-◌}
-use lib.ListN.{length}
 use Rattle.placing.proofs.Placing.{Placing}
 use Rattle.placing.proofs.place_rows.Given as goal
 
 abbrev pub invariant-loop-i : goal.invariant-loop-i
 invariant-loop-i l =
     Placing l.initial.slot_row l.initial.slot_cell l.initial.row_slot l.initial.vacant l.rows l.place l.i l.start l.slot_row l.slot_cell l.row_slot l.vacant
-
-abbrev pub decreases-loop-i : goal.decreases-loop-i
-decreases-loop-i l = length l.rows - l.i

@@ -1,10 +1,6 @@
 -- The loop of `rules::ranks_kept`.
-use Prim.Native.Nat.{◌-◌}
 use Rattle.rules.proofs.Totals.{Summing}
 use Rattle.rules.proofs.ranks_kept.Given as goal
 
 abbrev pub invariant-loop-place : goal.invariant-loop-place
 invariant-loop-place l = Summing l.parent l.rank l.held l.place l.ranks l.roots
-
-abbrev pub decreases-loop-place : goal.decreases-loop-place
-decreases-loop-place l = l.held - l.place

@@ -1,14 +1,26 @@
 -- `rules::set_count` meets its contract.
 -- Assumes nothing.
+use mathlib.Core.Path.{◌∙◌}
+use mathlib.Core.Bool.{not, cond}
+use lib.Dec.{eqb}
+use Rattle.std.proofs.Common.{rules, tests}
 use native.Mathlib.Omega.{arith}
-use Rattle.slot_rules.proofs.Sweeps.{counting_start, counting_more, counting_fits}
+use Rattle.std.proofs.lemmas.Iterator.{YieldsList-from_slice, YieldsList-from_map}
+use Rattle.std.proofs.lemmas.Iterator.Consumers.{sum_by_from_yields_List, fits_by_from_yields_list}
+use Rattle.std.proofs.lemmas.List.Sums.{count_by-le-length}
+use Rattle.slot_rules.proofs.Sweeps.{count_below}
 use Rattle.rules.proofs.set_count.Goals as goal
 
-pub loop-i-init : goal.loop-i-init
-loop-i-init c = counting_start
+pub sum-requires-clause-fits : goal.sum-requires-clause-fits
+sum-requires-clause-fits c =
+    let l = c.args.numbers.now in
+    fits_by_from_yields_list (λ x. cond (not (eqb x 0)) 1 0) l _ _
+    (YieldsList-from_map _ (λ x. cond (not (eqb x 0)) 1 0) (YieldsList-from_slice l cc) c.map.ensures.closure (λ x r q k. search (rules, tests)))
+    (omega (arith, count_by-le-length (λ x. not (eqb x 0)) l, c.requires))
 
-pub overflow_add-count : goal.overflow_add-count
-overflow_add-count c = omega (arith, counting_fits c.loop-i.invariant, c.one_if_set-count.ensures.1)
-
-pub loop-i-preserved : goal.loop-i-preserved
-loop-i-preserved c = counting_more c.loop-i.invariant c.loop-i-test.true c.one_if_set-count.ensures.0
+pub returns : goal.returns
+returns c =
+    let l = c.args.numbers.now in
+    sum_by_from_yields_List (λ x. cond (not (eqb x 0)) 1 0) l _ _ c.sum.ensures.ran
+    (YieldsList-from_map _ (λ x. cond (not (eqb x 0)) 1 0) (YieldsList-from_slice l cc) c.map.ensures.closure (λ x r q k. search (rules, tests)))
+    ∙ count_below (λ x. not (eqb x 0)) l

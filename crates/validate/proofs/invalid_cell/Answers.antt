@@ -1,13 +1,16 @@
 -- `validate::invalid_cell` meets its contract.
 -- Assumes nothing.
+use mathlib.Core.Path.{◌∙◌}
 use mathlib.Core.Bool.{not}
-use mathlib.Core.Path.{ap}
-use Rattle.scope.proofs.Scan.{going_stop, going_done}
-use Rattle.scope.proofs.Tests.{fails}
+use Rattle.std.proofs.Common.{rules, tests}
+use Rattle.std.proofs.lemmas.Iterator.{YieldsList-from_slice}
+use Rattle.std.proofs.lemmas.Iterator.Search.{position_from_yields_List}
+use Rattle.scope.specs.Cells.{valid_cell}
+use Rattle.validate.proofs.Lowest.{position_lowest}
 use Rattle.validate.proofs.invalid_cell.Goals as goal
 
-pub returns-then-not-is_cell : goal.returns-then-not-is_cell
-returns-then-not-is_cell c = going_stop c.loop-i.invariant c.loop-i-test.true (fails c.is_cell.ensures (ap not c.if-not-is_cell.true))
-
 pub returns : goal.returns
-returns c = going_done c.loop-i.invariant c.loop-i-test.false
+returns c =
+    let cs = c.args.cells.now in
+    position_from_yields_List (λ x. not (valid_cell x)) _ _ _ c.position.ensures.ran (YieldsList-from_slice cs cc) (λ x b q k. search (rules, tests))
+    ∙ position_lowest valid_cell cs

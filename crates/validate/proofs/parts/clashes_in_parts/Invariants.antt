@@ -1,11 +1,6 @@
 -- The loop of `validate::parts::clashes_in_parts`.
-use Prim.Native.Nat.{◌-◌, ◌≤◌}
-use lib.ListN.{length}
-use Rattle.validate.specs.Parts.{Found}
+use Rattle.validate.proofs.Joining.{Parting}
 use Rattle.validate.proofs.parts.clashes_in_parts.Given as goal
 
-abbrev pub invariant-loop-done : goal.invariant-loop-done
-invariant-loop-done l = (l.done ≤ length l.cells) × Found l.cells l.done l.mixed l.second l.nested
-
-abbrev pub decreases-loop-done : goal.decreases-loop-done
-decreases-loop-done l = length l.cells - l.done
+abbrev pub invariant-loop-k : goal.invariant-loop-k
+invariant-loop-k l = Parting l.cells l.mixed l.k-iterator.iter.size l.k-iterator.count l.k-iterator.iter.rest.now l.second l.nested

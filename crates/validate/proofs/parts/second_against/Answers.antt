@@ -1,19 +1,18 @@
 -- `validate::parts::second_against` meets its contract.
 -- Assumes nothing.
-use mathlib.Core.Bool.{not}
-use mathlib.Core.Path.{ap}
-use native.Mathlib.Omega.{arith}
-use Rattle.scope.proofs.Scan.{going_stop, going_done}
-use Rattle.scope.proofs.Tests.{fails}
+use mathlib.Core.Bool.{true, false}
+use mathlib.Core.Path.{◌≡◌}
+use Rattle.std.proofs.Common.{rules, tests}
+use Rattle.std.proofs.lemmas.Iterator.{first_from_Range}
+use Rattle.validate.specs.Parts.{new_against}
+use Rattle.validate.proofs.Lowest.{find_lowest}
 use Rattle.validate.proofs.Joining.{from_part}
 use Rattle.validate.proofs.parts.second_against.Goals as goal
 
-pub loop-i-init : goal.loop-i-init
-loop-i-init c =
-    (omega arith, from_part c.args.part.now c.args.cells.now c.args.start c.requires.within)
-
-pub returns-then-not-is_new : goal.returns-then-not-is_new
-returns-then-not-is_new c = going_stop c.loop-i.invariant.1 c.loop-i-test.true (fails c.is_new.ensures (ap not c.if-not-is_new.true))
-
 pub returns : goal.returns
-returns c = going_done c.loop-i.invariant.1 c.loop-i-test.false
+returns c =
+    let part = c.args.part.now in
+    let cs = c.args.cells.now in
+    let start = c.args.start in
+    find_lowest _ _ start _ (from_part part cs start c.requires.within)
+    (first_from_Range _ _ _ _ (λ i. new_against part cs start i ≡ false) (λ i. new_against part cs start i ≡ true) c.find.ensures.ran (λ x q k. search (rules, tests)) (λ x q k. search (rules, tests)))

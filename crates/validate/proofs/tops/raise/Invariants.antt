@@ -4,6 +4,3 @@ use Rattle.validate.proofs.tops.raise.Given as goal
 
 abbrev pub invariant-loop-p : goal.invariant-loop-p
 invariant-loop-p l = Raising l.part l.initial.order l.order l.p l.top
-
-abbrev pub decreases-loop-p : goal.decreases-loop-p
-decreases-loop-p l = l.p

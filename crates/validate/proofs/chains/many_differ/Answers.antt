@@ -1,8 +1,0 @@
--- `validate::chains::many_differ` meets its contract.
--- Assumes nothing.
-use native.Mathlib.Omega.{arith}
-use Rattle.validate.proofs.Chaining.{chain_room}
-use Rattle.validate.proofs.chains.many_differ.Goals as goal
-
-pub differ-requires : goal.differ-requires
-differ-requires c = chain_room 16384 (omega arith) c.requires

@@ -1,2 +1,3 @@
 -- Laws that others cite.
 pub mod Orders
+pub mod Keys

@@ -1,2 +1,3 @@
 -- What the functions of this crate promise.
 pub mod Keys
+pub mod Sorted

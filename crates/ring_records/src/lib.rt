@@ -5,7 +5,7 @@ ghost use Rattle.std.specs.Prelude.{◌≡◌, ◌<◌, length};
 ghost use Rattle.scope.specs.Answers.{rings_of};
 ghost use Rattle.ring_records.specs.Records.{record_at, filled, Enough};
 
-use scope::ReadOut;
+use scope::{ReadOut, Refusal};
 
 #[repr(C)]
 #[derive(Clone, Copy)]
@@ -30,18 +30,19 @@ fn record_at(starts: &[u32], lengths: &[u32], groups: &[u32], areas: &[f64], i: 
 }
 
 // How many rings an answer of the core has written, so how many records there are to fill.
-pub fn ring_count(answer: ReadOut) -> usize
+#[tactic(auto, unfolding(scope::specs::Answers::rings_of))]
+pub fn ring_count(answer: Result<ReadOut, Refusal>) -> usize
     ensures { result ≡ rings_of answer }
 {
     match answer {
-        ReadOut::Nothing => 0,
-        ReadOut::Closed => 0,
-        ReadOut::Outline(_, rings, _) => rings,
-        ReadOut::Refused(_, _) => 0,
+        Ok(ReadOut::Outline(_, rings, _)) => rings,
+        Ok(ReadOut::Nothing | ReadOut::Closed) => 0,
+        Err(_) => 0,
     }
 }
 
 // The first n records, from the four plain slices. The records past them stay as they were.
+// The fields stay slices of their own, with n beside them, since `build_rings` promises them so (`written`).
 pub fn fill_rings(
     rings: &mut [Ring],
     starts: &[u32],
@@ -53,9 +54,7 @@ pub fn fill_rings(
     requires { Enough n rings.old starts.now lengths.now groups.now areas.now }
     ensures { rings.new ≡ filled starts.now lengths.now groups.now areas.now n rings.old }
 {
-    let mut i = 0;
-    while i < n {
+    for i in 0..n {
         rings[i] = record_at(starts, lengths, groups, areas, i);
-        i += 1;
     }
 }

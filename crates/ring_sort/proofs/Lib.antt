@@ -1,8 +1,7 @@
 -- Laws that the proofs of the functions cite.
 pub mod Fills
 pub mod Parts
-pub mod Merging
-pub mod Halves
+pub mod Sorts
 pub mod Numbers
 pub mod Sorting
 pub mod Determined

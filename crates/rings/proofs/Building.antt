@@ -12,11 +12,12 @@ use borrow.Author.Tests.{leb-true}
 use lib.Dec.{leb}
 use lib.ListN.{length}
 use Rattle.scope.specs.declared.ReadOut.{ReadOut}
-use Rattle.scope.specs.declared.ReadOut.TheVariants.{Refused}
+use Rattle.scope.specs.declared.Refusal.TheVariants.{BadLengths}
 use Rattle.scope.specs.Lists.{zeros}
-use Rattle.scope.specs.Answers.{require}
+use Rattle.std.specs.Prelude.{Ok, Err}
+use Rattle.scope.specs.Answers.{Answer, require}
 use Rattle.scope.specs.Table.{Table}
-use Rattle.scope.specs.Memory.{Memory, Output, output}
+use Rattle.scope.specs.Memory.{Memory, Output}
 use Rattle.scope.specs.Order.{View, view, lowest_rows, ordered, edge_rows, read_answer}
 use Rattle.scope.specs.Calls.{written, output_fits, read_from, reading}
 use Rattle.scope.proofs.Tests.{either, and_left, and_right}
@@ -71,19 +72,19 @@ module _ {v : View} {row_mark cell_mark : List ℕ} {o : Output} (R : BuildReady
             start_room = r;
           }
 
-      pub built_written : {rowMark₂ cellMark₂ : List ℕ} {o₂ : Output} {r : ReadOut} → Wrote v rowMark₁ cell_mark o rowMark₂ cellMark₂ o₂ r → Built v row_mark cell_mark o rowMark₂ cellMark₂ o₂ r
+      pub built_written : {rowMark₂ cellMark₂ : List ℕ} {o₂ : Output} {r : ReadOut} → Wrote v rowMark₁ cell_mark o rowMark₂ cellMark₂ o₂ r → Built v row_mark cell_mark o rowMark₂ cellMark₂ o₂ (Ok r)
       unfolding answered left_in
       built_written W = record {
-        answer = W.answer ∙ sym (ap (λ (b : Bool). cond b (read_answer v) (Refused 10 0)) t);
+        answer = W.answer ∙ sym (ap (λ (b : Bool). cond b (read_answer v) (Err BadLengths)) t);
         out = W.out ∙ sym (ap (λ (b : Bool). cond b (written v o) o) t);
         row_marks = W.row_marks ∙ marks_cleared;
         cell_marks = W.cell_marks;
       }
 
-    pub built_refused : output_fits v o ≡ false → {rowMark₂ : List ℕ} → rowMark₂ ≡ zeros rowMark₁ → Built v row_mark cell_mark o rowMark₂ cell_mark o (Refused 10 0)
+    pub built_refused : output_fits v o ≡ false → {rowMark₂ : List ℕ} → rowMark₂ ≡ zeros rowMark₁ → Built v row_mark cell_mark o rowMark₂ cell_mark o (Err BadLengths)
     unfolding answered left_in
     built_refused t z = record {
-      answer = sym (ap (λ (b : Bool). cond b (read_answer v) (Refused 10 0)) t);
+      answer = sym (ap (λ (b : Bool). cond b (read_answer v) (Err BadLengths)) t);
       out = sym (ap (λ (b : Bool). cond b (written v o) o) t);
       row_marks = z ∙ marks_cleared;
       cell_marks = refl;
@@ -91,11 +92,11 @@ module _ {v : View} {row_mark cell_mark : List ℕ} {o : Output} (R : BuildReady
 
 -- ---- for a reader and for the calls
 
-pub built_determined : {v : View} {row_mark cell_mark : List ℕ} {o : Output} {rowMark₁ cellMark₁ rowMark₂ cellMark₂ : List ℕ} {o₁ o₂ : Output} {r₁ r₂ : ReadOut}
+pub built_determined : {v : View} {row_mark cell_mark : List ℕ} {o : Output} {rowMark₁ cellMark₁ rowMark₂ cellMark₂ : List ℕ} {o₁ o₂ : Output} {r₁ r₂ : Answer}
     → Built v row_mark cell_mark o rowMark₁ cellMark₁ o₁ r₁ → Built v row_mark cell_mark o rowMark₂ cellMark₂ o₂ r₂ → (r₁ ≡ r₂) × (o₁ ≡ o₂) × (rowMark₁ ≡ rowMark₂) × (cellMark₁ ≡ cellMark₂)
 built_determined A B = (A.answer ∙ sym B.answer, A.out ∙ sym B.out, A.row_marks ∙ sym B.row_marks, A.cell_marks ∙ sym B.cell_marks)
 
 pub reading_is : (t : Table) (m : Memory) (o : Output)
-    → reading (require (output_fits (view t m) o) 10 0) (read_from t m o) m o ≡ record { answer = answered (view t m) o; left = m; out = left_in (view t m) o }
+    → reading (require (output_fits (view t m) o) BadLengths) (read_from t m o) m o ≡ record { answer = answered (view t m) o; left = m; out = left_in (view t m) o }
 unfolding answered left_in
 reading_is t m o = ⊎_elim (λ (e : output_fits (view t m) o ≡ true). rw e refl) (λ (e : output_fits (view t m) o ≡ false). rw e refl) (either (output_fits (view t m) o))

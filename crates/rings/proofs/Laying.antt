@@ -3,9 +3,11 @@
 use Prim.Native.Nat.{ℕ, zero, suc, ◌+◌, ◌-◌, ◌≤◌, ◌<◌}
 use mathlib.Core.Path.{◌≡◌, refl, sym, ◌∙◌, ap, ap₂, subst}
 use mathlib.Core.Bool.{Bool, true, false, not}
+use mathlib.Core.Logic.{◌≢◌}
 use mathlib.Core.List.{List, [], ◌∷◌, ◌++◌, append_assoc, append-nil}
 use native.Mathlib.Numerals.{add-one}
 use native.Mathlib.Omega.{arith}
+use borrow.Author.Tests.{eq-eqb, ne_eqb}
 use lib.Dec.{eqb}
 use lib.ListN.{length, set, take, drop, length-set, length-append, take-append-drop}
 use lib.Seq.{take-suc, take-suc-set, drop-set-lt, take-take}
@@ -69,6 +71,15 @@ module _ {row_slot slot_row next out₀ : List ℕ} {from r : ℕ} {out : List �
             (I.wrote ∙ ap (λ (z : List ℕ). take from out₀ ++ z) (ap (λ (a : ℕ). orbit (next_row row_slot slot_row next) a r) k_is ∙ sym (ring_rows I.round.on)))
             I.behind I.len;
       }
+
+module _ {row_slot slot_row next out₀ : List ℕ} {from r : ℕ} {out : List ℕ} {k x : ℕ} (I : LayInv row_slot slot_row next out₀ from r out k x true)
+    {y : ℕ} (f : y ≡ next_row row_slot slot_row next x) where
+  -- on to another row, or back at the first
+  pub lay_on : y ≢ r → LayInv row_slot slot_row next out₀ from r (set out (from + k) x) (k + 1) y true
+  lay_on d = subst (λ (b : Bool). LayInv row_slot slot_row next out₀ from r (set out (from + k) x) (k + 1) y b) (ap not (ne_eqb y r d)) (lay_next I refl y f)
+
+  pub lay_back : y ≡ r → Laid row_slot slot_row next out₀ from r (set out (from + k) x) (k + 1)
+  lay_back q = lay_end (lay_next I refl y f) (ap not (eq-eqb y r q))
 
 -- ---- all rings
 

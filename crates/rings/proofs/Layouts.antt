@@ -1,12 +1,12 @@
 -- Rings laid out with their areas: what stands in the places of a ring is the ring.
 -- Assumes nothing.
-use Prim.Native.Nat.{ℕ, ◌+◌, ◌-◌, ◌≤◌, ◌<◌}
+use Prim.Native.Nat.{ℕ, ◌+◌, ◌≤◌, ◌<◌}
 use mathlib.Core.Path.{◌≡◌, sym, ◌∙◌, ap, subst}
 use mathlib.Core.List.{List, ◌++◌}
 use native.Mathlib.Omega.{arith}
 use lib.Ieee.{Float, nan}
 use lib.ListN.{length, take, drop, take-append-drop}
-use lib.Seq.{slice, take-take, take_at, drop_at, get_or-take, get_or-drop}
+use lib.Seq.{slice, take-take, take_at, drop_at}
 use Rattle.scope.specs.Lists.{at}
 use Rattle.scope.specs.Area.{area_of}
 use Rattle.scope.specs.Order.{next_row}
@@ -27,10 +27,6 @@ row_low {row_slot} {slot_row} {next} {r} O k h =
     subst (λ (a : ℕ). a < length row_slot)
     (sym (ap (λ (z : List ℕ). at z k) (ring_rows O) ∙ orbit_at (next_row row_slot slot_row next) (turns O) r k (omega arith)))
     ((links_permute O.links).small (iter (next_row row_slot slot_row next) k r) (iter_in (links_permute O.links) k r (zero_not (at row_slot r) O.stands)))
-
-slice_at : (f t : ℕ) (l : List ℕ) (j : ℕ) → f ≤ j → j < t → at (slice f t l) (j - f) ≡ at l j
-slice_at f t l j h k =
-    get_or-drop f (take t l) (j - f) 0 ∙ ap (at (take t l)) (let z : f + (j - f) ≡ j = omega arith in z) ∙ get_or-take t l j 0 k
 
 module _ {row_slot slot_row next rows : List ℕ} {n : ℕ} {edges start size edges' start' size' : List ℕ}
     (R : LayAllReady row_slot slot_row next rows n edges start size) (L : LaidAll row_slot slot_row next rows n edges start size edges' start' size') (i : ℕ) (h : i < n) where
@@ -66,13 +62,7 @@ module _ {row_slot slot_row next rows : List ℕ} {n : ℕ} {edges start size ed
   area_ready {terms} t = record {
     from_to = omega arith;
     to_in = let a = to_most in let b = R.room in let c = L.len in omega arith;
-    rows_in = λ j l k.
-        let on : OnRing row_slot slot_row next (at rows i) = record { links = R.links; stands = R.stand i h } in
-        let b = size_i in
-        let w = row_low on (j - at start' i) (omega arith) in
-        let e : at (ring_in row_slot slot_row next (at rows i)) (j - at start' i) ≡ at edges' j =
-        ap (λ (z : List ℕ). at z (j - at start' i)) (sym ring_laid) ∙ slice_at (at start' i) (at start' i + at size' i) edges' j l k in
-        omega arith;
+    rows_in = rw (ring_laid, t) (row_low (record { links = R.links; stands = R.stand i h }));
   }
 
 module _ {row_slot slot_row next : List ℕ} {terms : List Float} {rows : List ℕ} {n : ℕ} {edges start size : List ℕ} {area : List Float}

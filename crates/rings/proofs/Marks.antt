@@ -90,3 +90,15 @@ module _ {row_slot slot_row next mark₀ : List ℕ} {r : ℕ} {mark : List ℕ}
 
     pub mark_last : r < length mark
     mark_last = in_mark
+
+module _ {row_slot slot_row next mark₀ : List ℕ} {r : ℕ} {mark : List ℕ} {k x : ℕ} (I : MarkInv row_slot slot_row next mark₀ r mark k x true)
+    {y : ℕ} (f : y ≡ next_row row_slot slot_row next x) where
+  -- on to another row, or back at the first
+  pub mark_on : y ≢ r → MarkInv row_slot slot_row next mark₀ r (set mark x 1) (k + 1) y true
+  mark_on d = subst (λ (b : Bool). MarkInv row_slot slot_row next mark₀ r (set mark x 1) (k + 1) y b) (ap not (ne_eqb y r d)) (mark_next I refl y f)
+
+  pub mark_back : y ≡ r → Marked row_slot slot_row next mark₀ r (set (set mark x 1) r 2) (k + 1)
+  mark_back q = mark_end (mark_next I refl y f) (ap not (eq-eqb y r q))
+
+  pub mark_first : y ≡ r → r < length (set mark x 1)
+  mark_first q = mark_last (mark_next I refl y f) (ap not (eq-eqb y r q))

@@ -2,13 +2,18 @@
 -- Assumes nothing.
 use Prim.Native.Nat.{ℕ, ◌+◌, ◌≤◌, ◌<◌}
 use mathlib.Core.Path.{◌≡◌, refl, sym, ◌∙◌, ap, ap₂, subst}
+use mathlib.Core.Bool.{Bool, true, false, cond}
 use mathlib.Core.Logic.{◌≢◌}
 use mathlib.Core.List.{List, [], ◌∷◌, map}
 use native.Mathlib.Omega.{arith}
 use borrow.Author.Tests.{eq-eqb}
+use lib.Dec.{eqb}
 use lib.Ieee.{Float, nan}
 use lib.ListN.{length, get_or, take, drop, replicate, length-replicate}
+use Rattle.std.specs.Prelude.{Ok}
 use Rattle.scope.specs.declared.ReadOut.{ReadOut}
+use Rattle.scope.specs.declared.ReadOut.TheVariants.{Nothing, Closed, Outline}
+use Rattle.scope.specs.Answers.{Answer}
 use Rattle.scope.specs.Lists.{at, zeros, head_or}
 use Rattle.scope.specs.Area.{area_of}
 use Rattle.scope.specs.Memory.{output}
@@ -37,10 +42,15 @@ answer_same held rings polygons first other e = cases rings 0
     (λ z. rw (eq-eqb rings 0 z) refl)
     (λ d. ap (λ (x : Float). answer_of held rings polygons x) (e d))
 
+ok_cond : (a b : Bool) (x y z : ReadOut) → cond {A = Answer} a (Ok x) (cond b (Ok y) (Ok z)) ≡ Ok (cond a x (cond b y z))
+ok_cond true b x y z = refl
+ok_cond false true x y z = refl
+ok_cond false false x y z = refl
+
 -- the answer of a view
-answer_view : (v : View) → read_answer v ≡ answer_of v.held (length (lowest_rows v)) (polygon_count v) (area_at v (head_or 0 (ordered v)))
+answer_view : (v : View) → read_answer v ≡ Ok (answer_of v.held (length (lowest_rows v)) (polygon_count v) (area_at v (head_or 0 (ordered v))))
 unfolding read_answer
-answer_view v = refl
+answer_view v = ok_cond (eqb v.held 0) (eqb (length (lowest_rows v)) 0) Nothing Closed (Outline (polygon_count v) (length (lowest_rows v)) (area_at v (head_or 0 (ordered v))))
 
 head_at : (l : List ℕ) → 0 < length l → head_or 0 l ≡ at l 0
 head_at [] h = absurd (omega arith)
@@ -100,10 +110,10 @@ module _ {v : View} {row_mark cell_mark start size group : List ℕ} {area : Lis
     pub write_answer : n ≤ length area₂
     write_answer = let a = F.len in let b = (write_order R S).areas in omega arith
 
-    answered : {r : ReadOut} → r ≡ answer_of v.held n polygons (get_or area₂ 0 nan) → r ≡ read_answer v
+    answered : {r : ReadOut} → r ≡ answer_of v.held n polygons (get_or area₂ 0 nan) → Ok r ≡ read_answer v
     answered e =
-        e ∙ answer_same v.held n polygons (get_or area₂ 0 nan) (area_at v (head_or 0 (ordered v))) first_area
-        ∙ ap₂ (λ (a b : ℕ). answer_of v.held a b (area_at v (head_or 0 (ordered v)))) R.survey.count (O.count ∙ polygons_are (numbered R S))
+        ap Ok (e ∙ answer_same v.held n polygons (get_or area₂ 0 nan) (area_at v (head_or 0 (ordered v))) first_area
+        ∙ ap₂ (λ (a b : ℕ). answer_of v.held a b (area_at v (head_or 0 (ordered v)))) R.survey.count (O.count ∙ polygons_are (numbered R S)))
         ∙ sym (answer_view v)
 
   module _ {edges₃ start₂ size₃ : List ℕ} {area₂ : List Float} (D : LaidOut v.row_slot v.slot_row v.next v.terms rowMark₂ n edges₂ start₁ size₂ area₁ edges₃ start₂ size₃ area₂) where

@@ -1,8 +1,10 @@
 -- What `build_rings` asks and promises: read out's answer and outputs, as document 01 defines them over a view of the state.
 -- Assumes nothing.
-use Rattle.std.specs.Prelude.{ℕ, ◌≤◌, ◌≡◌, cond, List, eqb, Float, length}
+use Rattle.std.specs.Prelude.{ℕ, ◌≤◌, ◌≡◌, cond, List, eqb, Float, length, Ok, Err}
 use Rattle.scope.specs.declared.ReadOut.{ReadOut}
-use Rattle.scope.specs.declared.ReadOut.TheVariants.{Nothing, Closed, Outline, Refused}
+use Rattle.scope.specs.declared.ReadOut.TheVariants.{Nothing, Closed, Outline}
+use Rattle.scope.specs.declared.Refusal.TheVariants.{BadLengths}
+use Rattle.scope.specs.Answers.{Answer}
 use Rattle.scope.specs.Lists.{at, zeros}
 use Rattle.scope.specs.Memory.{Output}
 use Rattle.scope.specs.Order.{View, read_answer}
@@ -25,7 +27,7 @@ pub record WriteReady (v : View) (row_mark cell_mark : List ℕ) (o : Output) (n
   pub start_room : n ≤ length o.start
 
 pub record Wrote (v : View) (row_mark cell_mark : List ℕ) (o : Output) (rowMark' cellMark' : List ℕ) (o' : Output) (r : ReadOut) : Type 0 where
-  pub answer : r ≡ read_answer v
+  pub answer : Ok r ≡ read_answer v
   pub out : o' ≡ written v o
   pub row_marks : rowMark' ≡ zeros row_mark
   pub cell_marks : cellMark' ≡ cell_mark
@@ -36,14 +38,14 @@ pub record BuildReady (v : View) (row_mark cell_mark : List ℕ) (o : Output) : 
   pub rows_clear : (r : ℕ) → at row_mark r ≡ 0
   pub output : OutputFits o
 
--- Where an output is too short the answer is refusal 10 with 0, and nothing is written.
-unfoldable pub answered : View → Output → ReadOut
-answered v o = cond (output_fits v o) (read_answer v) (Refused 10 0)
+-- Where an output is too short the answer is refusal 10, and nothing is written.
+unfoldable pub answered : View → Output → Answer
+answered v o = cond (output_fits v o) (read_answer v) (Err BadLengths)
 
 unfoldable pub left_in : View → Output → Output
 left_in v o = cond (output_fits v o) (written v o) o
 
-pub record Built (v : View) (row_mark cell_mark : List ℕ) (o : Output) (rowMark' cellMark' : List ℕ) (o' : Output) (r : ReadOut) : Type 0 where
+pub record Built (v : View) (row_mark cell_mark : List ℕ) (o : Output) (rowMark' cellMark' : List ℕ) (o' : Output) (r : Answer) : Type 0 where
   pub answer : r ≡ answered v o
   pub out : o' ≡ left_in v o
   pub row_marks : rowMark' ≡ row_mark

@@ -42,10 +42,14 @@ pub record LaidAll (row_slot slot_row next rows : List ℕ) (n : ℕ) (edges sta
 abbrev pub terms_of : List Float → List ℕ → List Float
 terms_of terms l = map (λ x. get_or terms x nan) l
 
+-- each row has its term
+abbrev pub RowsReady : List Float → List ℕ → Type 0
+RowsReady terms rows = (k : ℕ) → k < length rows → at rows k < length terms
+
 pub record AreaReady (terms : List Float) (edges : List ℕ) (from to : ℕ) : Type 0 where
   pub from_to : from ≤ to
   pub to_in : to ≤ length edges
-  pub rows_in : (i : ℕ) → from ≤ i → i < to → at edges i < length terms
+  pub rows_in : RowsReady terms (slice from to edges)
 
 -- the area of the i-th ring
 abbrev pub area_laid : List Float → List ℕ → List ℕ → List ℕ → ℕ → Float

@@ -7,6 +7,7 @@ use Rattle.scope.specs.Order.{View, lowest_rows, area_at, group_at, edge_rows}
 use Rattle.ring_sort.specs.Fill.{Filling}
 use Rattle.rings.specs.Links.{Links, starts_in}
 use Rattle.rings.specs.Grouping.{Parents}
+use Rattle.rings.specs.declared.links.View.{View as Lent}
 
 abbrev pub view_of : List ℕ → List ℕ → List ℕ → List ℕ → List ℕ → ℕ → List Float → View
 view_of row_slot slot_row slot_cell next parent held terms = record {
@@ -18,6 +19,10 @@ view_of row_slot slot_row slot_cell next parent held terms = record {
   held = held;
   terms = terms;
 }
+
+-- the same of the slices that are lent together
+abbrev pub view_in : Lent → View
+view_in l = view_of l.row_slot.now l.slot_row.now l.slot_cell.now l.next.now l.parent.now l.held l.terms.now
 
 -- what the state's rules and its lengths say of a view
 pub record Readable (v : View) : Type 0 where

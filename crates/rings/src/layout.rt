@@ -1,81 +1,67 @@
 // The edge list: rings laid end to end, with the start and the length of each, and the areas read off it.
 ghost use Rattle.std.specs.Prelude.{◌≡◌};
 ghost use Rattle.std.specs.Float.{nan};
-ghost use Rattle.std.proofs.Math.Seq.{slice};
 ghost use Rattle.scope.specs.Area.{area_of};
 ghost use Rattle.ring_sort.specs.Fill.{Filling};
-ghost use Rattle.rings.specs.Laying.{LayReady, Laid, LayAllReady, LaidAll, terms_of, AreaReady, area_laid, AreasReady, OutReady, LaidOut};
+ghost use Rattle.rings.specs.Views.{view_in};
+ghost use Rattle.rings.specs.Laying.{LayReady, Laid, LayAllReady, LaidAll, terms_of, RowsReady, area_laid, AreasReady, OutReady, LaidOut};
 
-use crate::walk::{next_slot, row_in, slot_of};
+use crate::links::View;
 use fp_adder::FloatAdder;
 use slices::{get32, put32};
 
 // Writes the rows of r's ring from the place `from` on; the answer is how many there are.
-fn lay_ring(
-    row_slot: &[u32],
-    slot_row: &[u32],
-    next: &[u32],
-    out: &mut [u32],
-    from: usize,
-    r: usize,
-) -> usize
-    requires { LayReady row_slot.now slot_row.now next.now out.old from r }
-    ensures { Laid row_slot.now slot_row.now next.now
+fn lay_ring(view: &View<'_>, out: &mut [u32], from: usize, r: usize) -> usize
+    requires { let s = view_in view.now in LayReady s.row_slot s.slot_row s.next out.old from r }
+    ensures { let s = view_in view.now in Laid s.row_slot s.slot_row s.next
         out.old from r out.new result }
 {
     let mut k: usize = 0;
     let mut x = r;
-    let mut slot = slot_of(row_slot, slot_row, next, r);
-    let mut more = true;
-    while more {
+    let mut slot = view.slot_of(r);
+    loop {
         put32(out, from + k, x);
         k += 1;
-        slot = next_slot(row_slot, slot_row, next, x, slot);
-        x = row_in(slot_row, slot);
-        more = x != r;
+        slot = view.next_slot(x, slot);
+        x = view.row_in(slot);
+        if x == r {
+            return k;
+        }
     }
-    k
 }
 
 // Writes the rings of the n rows end to end, with the start and the length of each.
 fn lay_rings(
-    row_slot: &[u32],
-    slot_row: &[u32],
-    next: &[u32],
+    view: &View<'_>,
     rows: &[u32],
     n: usize,
     edges: &mut [u32],
     start: &mut [u32],
     size: &mut [u32],
 )
-    requires { LayAllReady row_slot.now slot_row.now next.now rows.now n edges.old start.old size.old }
-    ensures { LaidAll
-        row_slot.now slot_row.now next.now rows.now n
+    requires { let s = view_in view.now in LayAllReady s.row_slot s.slot_row s.next rows.now n edges.old start.old size.old }
+    ensures { let s = view_in view.now in LaidAll
+        s.row_slot s.slot_row s.next rows.now n
         edges.old start.old size.old
         edges.new start.new size.new }
 {
-    let mut i: usize = 0;
     let mut k: usize = 0;
-    while i < n {
-        let count = lay_ring(row_slot, slot_row, next, edges, k, get32(rows, i));
+    for i in 0..n {
+        let count = lay_ring(view, edges, k, get32(rows, i));
         put32(start, i, k);
         put32(size, i, count);
-        i += 1;
         k += count;
     }
 }
 
-// The area of the ring whose rows stand in the places `from` to `to`.
-fn ring_area(terms: &[f64], edges: &[u32], from: usize, to: usize) -> f64
-    requires { AreaReady terms.now edges.now from to }
-    ensures { result ≡ area_of (terms_of terms.now (slice from to edges.now)) }
+// The area of a ring, by its rows.
+fn ring_area(terms: &[f64], rows: &[u32]) -> f64
+    requires { RowsReady terms.now rows.now }
+    ensures { result ≡ area_of (terms_of terms.now rows.now) }
 {
     let mut adder = FloatAdder::new();
-    let mut i = from;
-    while i < to {
-        let term = terms[get32(edges, i)];
-        adder = adder.add(term);
-        i += 1;
+    for row in rows {
+        adder = adder.add(terms[*row as usize]);
     }
     adder.closed()
 }
@@ -87,20 +73,15 @@ fn ring_areas(terms: &[f64], edges: &[u32], start: &[u32], size: &[u32], area: &
         (area_laid terms.now edges.now start.now size.now)
         area.old area.new n }
 {
-    let mut i: usize = 0;
-    while i < n {
+    for i in 0..n {
         let from = get32(start, i);
-        area[i] = ring_area(terms, edges, from, from + get32(size, i));
-        i += 1;
+        area[i] = ring_area(terms, &edges[from..from + get32(size, i)]);
     }
 }
 
 // Lays the rings of the n rows end to end, with the start, the length and the area of each.
 pub(crate) fn lay_out(
-    row_slot: &[u32],
-    slot_row: &[u32],
-    next: &[u32],
-    terms: &[f64],
+    view: &View<'_>,
     rows: &[u32],
     n: usize,
     edges: &mut [u32],
@@ -108,13 +89,13 @@ pub(crate) fn lay_out(
     size: &mut [u32],
     area: &mut [f64],
 )
-    requires { OutReady row_slot.now slot_row.now next.now terms.now rows.now n
+    requires { let s = view_in view.now in OutReady s.row_slot s.slot_row s.next s.terms rows.now n
         edges.old start.old size.old area.old }
-    ensures { LaidOut
-        row_slot.now slot_row.now next.now terms.now rows.now n
+    ensures { let s = view_in view.now in LaidOut
+        s.row_slot s.slot_row s.next s.terms rows.now n
         edges.old start.old size.old area.old
         edges.new start.new size.new area.new }
 {
-    lay_rings(row_slot, slot_row, next, rows, n, edges, start, size);
-    ring_areas(terms, edges, start, size, area, n);
+    lay_rings(view, rows, n, edges, start, size);
+    ring_areas(view.terms, edges, start, size, area, n);
 }

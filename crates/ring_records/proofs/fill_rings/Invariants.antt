@@ -1,11 +1,7 @@
 -- The loop of `ring_records::fill_rings`: the first i records are filled.
 use mathlib.Core.Path.{◌≡◌}
-use Prim.Native.Nat.{◌≤◌, ◌-◌}
 use Rattle.ring_records.specs.Records.{filled}
 use Rattle.ring_records.proofs.fill_rings.Given as goal
 
 abbrev pub invariant-loop-i : goal.invariant-loop-i
-invariant-loop-i l = (l.i ≤ l.n) × (l.rings ≡ filled l.starts l.lengths l.groups l.areas l.i l.initial.rings)
-
-abbrev pub decreases-loop-i : goal.decreases-loop-i
-decreases-loop-i l = l.n - l.i
+invariant-loop-i l = l.rings ≡ filled l.starts l.lengths l.groups l.areas l.i l.initial.rings

@@ -17,4 +17,4 @@ ring_groups-requires c =
 
 pub returns : goal.returns
 returns c =
-    survey_done c.requires c.list_rings.ensures c.lay_out.ensures c.mark_groups.ensures c.ring_groups.ensures c.clear32.ensures c.clear32-2.ensures
+    survey_done c.requires c.list_rings.ensures c.lay_out.ensures c.mark_groups.ensures c.ring_groups.ensures c.clear.ensures c.clear-2.ensures

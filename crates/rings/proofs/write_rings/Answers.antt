@@ -18,4 +18,4 @@ lay_out-requires c =
 
 pub returns : goal.returns
 returns c =
-    write_done c.requires c.survey_rings.ensures c.order_rings-polygons.ensures c.lay_out.ensures c.gather.ensures c.clear32.ensures c.answer.ensures
+    write_done c.requires c.survey_rings.ensures c.order_rings-polygons.ensures c.lay_out.ensures c.gather.ensures c.clear.ensures c.answer.ensures

@@ -4,7 +4,7 @@ use Rattle.rings.proofs.Painting.{ClimbInv}
 use Rattle.rings.proofs.groups.find_group.Given as goal
 
 abbrev pub invariant-loop-above : goal.invariant-loop-above
-invariant-loop-above l = ClimbInv l.parent l.mark l.held l.p l.i
+invariant-loop-above l = ClimbInv l.view.parent.now l.mark l.view.held l.p l.i
 
 abbrev pub decreases-loop-above : goal.decreases-loop-above
-decreases-loop-above l = depth l.parent l.held l.i
+decreases-loop-above l = depth l.view.parent.now l.view.held l.i

@@ -4,8 +4,8 @@ use native.Mathlib.Omega.{arith}
 use Rattle.rings.proofs.Areas.{area_start, area_next}
 use Rattle.rings.proofs.layout.ring_area.Goals as goal
 
-pub loop-i-init : goal.loop-i-init
-loop-i-init c = area_start c.requires c.new-adder.ensures
+pub loop-row-init : goal.loop-row-init
+loop-row-init c = area_start c.args.terms.now c.args.rows.now c.new-adder.ensures
 
-pub loop-i-preserved : goal.loop-i-preserved
-loop-i-preserved c = area_next c.loop-i.invariant (omega arith) c.get32.ensures.0 c.add-adder.ensures
+pub loop-row-preserved : goal.loop-row-preserved
+loop-row-preserved c = area_next c.args.terms.now c.args.rows.now c.loop-row.row-index c.loop-row.invariant (omega arith) c.add-adder.ensures

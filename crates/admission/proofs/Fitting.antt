@@ -3,14 +3,13 @@
 --     agrees          where the lengths fit, the table's three slices agree
 --     open_is, list_is, state_is     what was found of the lengths put in: `open_verdict`, `dissolve_verdict`, and the state's verdict
 -- Assumes nothing.
-use mathlib.Core.Path.{◌≡◌, refl, sym, ◌∙◌, ap}
+use mathlib.Core.Path.{◌≡◌, refl}
 use mathlib.Core.Bool.{Bool, true, false, ◌&&◌}
 use mathlib.Core.List.{List}
 use Prim.Native.Nat.{ℕ}
 use lib.Dec.{eqb}
 use lib.ListN.{length}
-use Rattle.scope.specs.declared.Verdict.{Verdict}
-use Rattle.scope.specs.declared.Verdict.TheVariants.{Accepted, Refused}
+use Rattle.scope.specs.declared.Refusal.TheVariants.{BrokenState, BadLengths}
 use Rattle.scope.specs.Answers.{require, ◌▷◌}
 use Rattle.scope.specs.Table.{Table, target_of, table_verdict}
 use Rattle.scope.specs.CellLists.{list_verdict}
@@ -35,7 +34,7 @@ module _ (t : Table) (m : Memory) where
   unfolding open_after table_after checked open_verdict
   open_is mode = go (lengths_fit t m) (mode_fits mode) agrees
     where
-      go : (fits named : Bool) → (fits ≡ true → table_agrees t ≡ true) → (require (fits && named) 10 0 ▷ require (table_agrees t) 10 0 ▷ table_verdict t) ≡ (require (fits && named) 10 0 ▷ table_verdict t)
+      go : (fits named : Bool) → (fits ≡ true → table_agrees t ≡ true) → (require (fits && named) BadLengths ▷ require (table_agrees t) BadLengths ▷ table_verdict t) ≡ (require (fits && named) BadLengths ▷ table_verdict t)
       go true true h = rw (h refl)
       go true false h = refl
       go false named h = refl
@@ -45,20 +44,20 @@ module _ (t : Table) (m : Memory) where
   list_is mode cs o = go (outputs_agree o) (lengths_fit t m) (mode_fits mode) agrees
     where
       go : (agree fits named : Bool) → (fits ≡ true → table_agrees t ≡ true)
-          → ((require ((agree && fits) && named) 10 0 ▷ require (table_agrees t) 10 0 ▷ table_verdict t) ▷ list_verdict (kept mode) (target_of t) (places m) cs)
-          ≡ (require agree 10 0 ▷ (require (fits && named) 10 0 ▷ table_verdict t) ▷ list_verdict (kept mode) (target_of t) (places m) cs)
+          → ((require ((agree && fits) && named) BadLengths ▷ require (table_agrees t) BadLengths ▷ table_verdict t) ▷ list_verdict (kept mode) (target_of t) (places m) cs)
+          ≡ (require agree BadLengths ▷ (require (fits && named) BadLengths ▷ table_verdict t) ▷ list_verdict (kept mode) (target_of t) (places m) cs)
       go true true true h = rw (h refl)
       go true true false h = refl
       go true false named h = refl
       go false fits named h = refl
 
-  pub state_is : (agree : Bool) → (table_after (agree && lengths_fit t m) t ▷ require (rules_kept t m) 9 0) ≡ state_after agree t m
+  pub state_is : (agree : Bool) → (table_after (agree && lengths_fit t m) t ▷ require (rules_kept t m) BrokenState) ≡ state_after agree t m
   unfolding table_after checked state_after state_verdict
   state_is agree = go agree (lengths_fit t m) agrees
     where
       go : (agree fits : Bool) → (fits ≡ true → table_agrees t ≡ true)
-          → ((require (agree && fits) 10 0 ▷ require (table_agrees t) 10 0 ▷ table_verdict t) ▷ require (rules_kept t m) 9 0)
-          ≡ (require agree 10 0 ▷ require fits 10 0 ▷ table_verdict t ▷ require (rules_kept t m) 9 0)
+          → ((require (agree && fits) BadLengths ▷ require (table_agrees t) BadLengths ▷ table_verdict t) ▷ require (rules_kept t m) BrokenState)
+          ≡ (require agree BadLengths ▷ require fits BadLengths ▷ table_verdict t ▷ require (rules_kept t m) BrokenState)
       go true true h = rw (h refl)
       go true false h = refl
       go false fits h = refl

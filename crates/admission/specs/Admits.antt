@@ -1,9 +1,9 @@
 -- The tests of the calls before anything is written, where `fits` is what was found of the lengths.
 -- Assumes nothing.
 use Rattle.std.specs.Prelude.{◌≡◌, Bool, ◌&&◌, List, ℕ, ◌<◌, ◌≤◌, length}
-use Rattle.scope.specs.declared.Verdict.{Verdict}
+use Rattle.scope.specs.declared.Refusal.TheVariants.{BadLengths}
 use Rattle.scope.specs.Lists.{at}
-use Rattle.scope.specs.Answers.{require, ◌▷◌}
+use Rattle.scope.specs.Answers.{require, ◌▷◌, Verdict}
 use Rattle.scope.specs.Table.{Table, target_of}
 use Rattle.scope.specs.CellLists.{list_verdict, cell_verdict}
 use Rattle.scope.specs.Memory.{Memory, kept, kept_mode, held_cells, places, mode_fits}
@@ -12,7 +12,7 @@ use Rattle.edge_table.specs.Checks.{checked}
 
 -- 10, 1: the table after the lengths.
 unfoldable pub table_after : Bool → Table → Verdict
-table_after fits t = require fits 10 0 ▷ checked t
+table_after fits t = require fits BadLengths ▷ checked t
 
 -- The same after the mode too.
 unfoldable pub open_after : Bool → ℕ → Table → Verdict
@@ -24,7 +24,7 @@ list_after fits mode t capacity cs = open_after fits mode t ▷ list_verdict (ke
 
 -- 10, 1, 9: the state after the lengths of read out's outputs.
 unfoldable pub state_after : Bool → Table → Memory → Verdict
-state_after agree t m = require agree 10 0 ▷ state_verdict t m
+state_after agree t m = require agree BadLengths ▷ state_verdict t m
 
 -- 10, 1, 9, 2, 3, 4, 3, 8.
 unfoldable pub admits : Table → Memory → ℕ → Verdict

@@ -6,145 +6,96 @@ pub mod lengths;
 
 ghost use Rattle.std.specs.Prelude.{◌≡◌, length, take};
 ghost use Rattle.scope.specs.Lists.{at};
-ghost use Rattle.scope.specs.Cells.{resolution_of};
-ghost use Rattle.scope.specs.Table.{table};
+ghost use Rattle.scope.specs.Table.{target_of};
 ghost use Rattle.scope.specs.CellLists.{cell_verdict};
-ghost use Rattle.scope.specs.Memory.{memory};
+ghost use Rattle.scope.specs.Memory.{kept_mode, held_cells, places};
+ghost use Rattle.lent.specs.Lent.{table_of, state_of};
 ghost use Rattle.admission.specs.Admits.{table_after, open_after, list_after, state_after, admits, CellAsks};
 
-use answers::is_accepted;
 use arcs::kept_mode;
 use edge_table::check_table;
 use index::resolution;
-use lengths::{both_agree, capacities_fit, three_agree};
+use lengths::lengths_fit;
+use lent::{Marks, State, Table};
 use rules::rules_kept;
-use scope::Verdict;
-use slices::get32;
+use scope::Refusal;
 use validate::{validate, validate_cell};
 
 // 10, 1: the lengths, and the table.
-fn table_verdict(edges: &[u64], reverse: &[u32], area: &[f64], fits: bool) -> Verdict
-    ensures { result ≡ table_after fits (table edges.now reverse.now area.now) }
+#[tactic(auto, unfolding(crate::specs::Admits::table_after))]
+fn table_verdict(table: &Table<'_>, fits: bool) -> Result<(), Refusal>
+    ensures { result ≡ table_after fits (table_of table.now) }
 {
     if !fits {
-        return Verdict::Refused(10, 0);
+        return Err(Refusal::BadLengths);
     }
-    check_table(edges, reverse, area)
+    check_table(table.edges, table.reverse, table.area)
 }
 
 // Open: 10, 1.
-pub fn open_verdict(
-    edges: &[u64],
-    reverse: &[u32],
-    area: &[f64],
-    mode: usize,
-    fits: bool,
-) -> Verdict
-    ensures { result ≡ open_after fits mode (table edges.now reverse.now area.now) }
+#[tactic(auto, unfolding(crate::specs::Admits::open_after))]
+pub fn open_verdict(table: &Table<'_>, mode: usize, fits: bool) -> Result<(), Refusal>
+    ensures { result ≡ open_after fits mode (table_of table.now) }
 {
-    table_verdict(edges, reverse, area, fits & (mode <= 2))
+    table_verdict(table, fits & (mode <= 2))
 }
 
 // Dissolve, before its work: 10, 1, and over the whole list 2, 3, 4, 3, 8.
+#[tactic(auto, unfolding(crate::specs::Admits::list_after))]
 pub fn list_verdict(
-    edges: &[u64],
-    reverse: &[u32],
-    area: &[f64],
+    table: &Table<'_>,
     list: &[u64],
     mode: usize,
     places: usize,
     fits: bool,
-) -> Verdict
-    ensures { result ≡ list_after fits mode (table edges.now reverse.now area.now) places list.now }
+) -> Result<(), Refusal>
+    ensures { result ≡ list_after fits mode (table_of table.now) places list.now }
 {
-    let opened = open_verdict(edges, reverse, area, mode, fits);
-    if !is_accepted(opened) {
-        return opened;
-    }
-    validate(list, kept_mode(mode), resolution(edges[0]), places)
+    open_verdict(table, mode, fits)?;
+    validate(list, kept_mode(mode), resolution(table.edges[0]), places)
 }
 
 // Offer and read out: 10, 1, 9. `agree` is what read out has found of its outputs' lengths.
 pub fn state_verdict(
-    edges: &[u64],
-    reverse: &[u32],
-    area: &[f64],
-    head: &[u32],
-    cells: &[u64],
-    parent: &[u32],
-    rank: &[u32],
-    cell_mark: &[u32],
-    slot_row: &[u32],
-    slot_cell: &[u32],
-    prev: &[u32],
-    next: &[u32],
-    row_slot: &[u32],
-    row_mark: &[u32],
+    table: &Table<'_>,
+    state: &State<'_>,
+    marks: &Marks<'_>,
     agree: bool,
-) -> Verdict
-    ensures { result ≡ state_after agree (table edges.now reverse.now area.now) (memory head.now cells.now parent.now rank.now cell_mark.now slot_row.now slot_cell.now prev.now next.now row_slot.now row_mark.now) }
+) -> Result<(), Refusal>
+    ensures { result ≡ state_after agree (table_of table.now) (state_of state.now marks.now) }
 {
-    let fits = both_agree(edges.len(), reverse.len(), area.len())
-        & (head.len() == 2)
-        & three_agree(cells.len(), parent.len(), rank.len(), cell_mark.len())
-        & three_agree(slot_row.len(), slot_cell.len(), prev.len(), next.len())
-        & both_agree(edges.len(), row_slot.len(), row_mark.len())
-        & capacities_fit(slot_row.len(), cells.len());
-    let checked = table_verdict(edges, reverse, area, agree & fits);
-    if !is_accepted(checked) {
-        return checked;
+    let fits = lengths_fit(table, state, marks);
+    table_verdict(table, agree & fits)?;
+    if !rules_kept(table, state, marks) {
+        return Err(Refusal::BrokenState);
     }
-    if rules_kept(
-        edges, reverse, area, head, cells, parent, rank, cell_mark, slot_row, slot_cell, prev,
-        next, row_slot, row_mark,
-    ) {
-        return Verdict::Accepted;
-    }
-    Verdict::Refused(9, 0)
+    Ok(())
 }
 
 // A cell against the held ones: 2, 3, 4, 3, 8.
-fn cell_verdict(edges: &[u64], head: &[u32], cells: &[u64], cell: u64) -> Verdict
-    requires { CellAsks edges.now head.now cells.now }
-    ensures { result ≡ cell_verdict (at head.now 0) (resolution_of (at edges.now 0)) (length cells.now) (take (at head.now 1) cells.now) cell }
+fn cell_verdict(table: &Table<'_>, state: &State<'_>, cell: u64) -> Result<(), Refusal>
+    requires { CellAsks table.now.edges.now state.now.head.now state.now.cells.now }
+    ensures { result ≡ cell_verdict (at state.now.head.now 0) (target_of (table_of table.now)) (length state.now.cells.now) (take (at state.now.head.now 1) state.now.cells.now) cell }
 {
-    let mode = get32(head, 0);
-    let held = get32(head, 1);
+    let held = state.held();
     validate_cell(
-        &cells[..held],
+        &state.cells[..held],
         cell,
-        mode,
-        resolution(edges[0]),
-        cells.len(),
+        state.mode(),
+        resolution(table.edges[0]),
+        state.cells.len(),
     )
 }
 
 // Offer, before the cell's outline: 10, 1, 9, 2, 3, 4, 3, 8.
 pub fn admit_verdict(
-    edges: &[u64],
-    reverse: &[u32],
-    area: &[f64],
-    head: &[u32],
-    cells: &[u64],
-    parent: &[u32],
-    rank: &[u32],
-    cell_mark: &[u32],
-    slot_row: &[u32],
-    slot_cell: &[u32],
-    prev: &[u32],
-    next: &[u32],
-    row_slot: &[u32],
-    row_mark: &[u32],
+    table: &Table<'_>,
+    state: &State<'_>,
+    marks: &Marks<'_>,
     cell: u64,
-) -> Verdict
-    ensures { result ≡ admits (table edges.now reverse.now area.now) (memory head.now cells.now parent.now rank.now cell_mark.now slot_row.now slot_cell.now prev.now next.now row_slot.now row_mark.now) cell }
+) -> Result<(), Refusal>
+    ensures { result ≡ admits (table_of table.now) (state_of state.now marks.now) cell }
 {
-    let state = state_verdict(
-        edges, reverse, area, head, cells, parent, rank, cell_mark, slot_row, slot_cell, prev,
-        next, row_slot, row_mark, true,
-    );
-    if !is_accepted(state) {
-        return state;
-    }
-    cell_verdict(edges, head, cells, cell)
+    state_verdict(table, state, marks, true)?;
+    cell_verdict(table, state, cell)
 }

@@ -1,6 +1,4 @@
 -- The laws behind the functions of this crate, over plain lists, in the order of their use.
--- Opening.
-pub mod Opening
 -- A pair leaves the links and the pool.
 pub mod Round
 pub mod Pair

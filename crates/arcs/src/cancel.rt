@@ -51,13 +51,20 @@ pub fn cancel_rows(
     ensures { RowsCancelled (reverses reverse.now) (pool parent.old rank.old slot_row.old slot_cell.old prev.old next.old row_slot.old) held rows.now result (pool parent.new rank.new slot_row.new slot_cell.new prev.new next.new row_slot.new) × Flags vacant.new slot_row.new }
 {
     let mut pairs = 0;
-    let mut i = 0;
-    while i < rows.len() {
-        let row = get32(rows, i);
+    for &row in rows {
         pairs += cancel_row(
-            reverse, parent, rank, slot_row, slot_cell, prev, next, row_slot, vacant, held, row,
+            reverse,
+            parent,
+            rank,
+            slot_row,
+            slot_cell,
+            prev,
+            next,
+            row_slot,
+            vacant,
+            held,
+            row as usize,
         );
-        i += 1;
     }
     pairs
 }

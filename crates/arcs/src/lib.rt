@@ -4,13 +4,14 @@
 mod cancel;
 
 ghost use Rattle.std.specs.Prelude.{◌≡◌, ◌&&◌, [], ◌∷◌, ◌<◌, leb, length};
-ghost use Rattle.scope.specs.Table.{table};
-ghost use Rattle.scope.specs.Memory.{memory, kept, opened};
+ghost use Rattle.scope.specs.Memory.{kept, opened};
+ghost use Rattle.lent.specs.Lent.{table_of, memory_of, SameMemory, SameMarks};
 ghost use Rattle.arcs.specs.Taking.{AddAsks, Added};
 
 use cancel::cancel_rows;
+use lent::{Marks, Memory, Table};
 use placing::{hold_cell, place_outline};
-use slices::{clear32, clear64, put32};
+use slices::{clear, put32};
 
 // The capacities of a pool.
 #[derive(Clone, Copy)]
@@ -38,42 +39,39 @@ fn open_head(head: &mut [u32], mode: usize)
 
 // Takes one more cell, whose outline is `rows`: the cell is held, its edges are put into the lowest free
 // slots, and what cancels leaves the pool. Answers how many pairs cancelled. `vacant` flags slots that may
-// be free. `edges`, `area` and the marks are here for the contract alone, which is about the whole table and state.
+// be free. Of the table, edges and areas are here for the contract alone, which is about the whole table and state, and so are the marks.
 pub fn add_edges(
-    edges: &[u64],
-    reverse: &[u32],
-    area: &[f64],
-    head: &mut [u32],
-    cells: &mut [u64],
-    parent: &mut [u32],
-    rank: &mut [u32],
-    cell_mark: &[u32],
-    slot_row: &mut [u32],
-    slot_cell: &mut [u32],
-    prev: &mut [u32],
-    next: &mut [u32],
-    row_slot: &mut [u32],
-    row_mark: &[u32],
+    table: &Table<'_>,
+    memory: &mut Memory<'_>,
+    marks: &Marks<'_>,
     vacant: &mut [u64],
     rows: &[u32],
     cell: u64,
 ) -> usize
-    requires { AddAsks (table edges.now reverse.now area.now) (memory head.old cells.old parent.old rank.old cell_mark.now slot_row.old slot_cell.old prev.old next.old row_slot.old row_mark.now) vacant.old cell rows.now }
-    ensures { Added (table edges.now reverse.now area.now) (memory head.old cells.old parent.old rank.old cell_mark.now slot_row.old slot_cell.old prev.old next.old row_slot.old row_mark.now) cell result (memory head.new cells.new parent.new rank.new cell_mark.now slot_row.new slot_cell.new prev.new next.new row_slot.new row_mark.now) vacant.new }
+    requires { AddAsks (table_of table.now) (memory_of memory.old marks.now) vacant.old cell rows.now }
+    ensures same_memory { SameMemory memory.old memory.new }
+    ensures added { Added (table_of table.now) (memory_of memory.old marks.now) cell result (memory_of memory.new marks.now) vacant.new }
 {
-    let place = hold_cell(head, cells, parent, rank, cell);
+    let place = hold_cell(memory.head, memory.cells, memory.parent, memory.rank, cell);
     place_outline(
-        slot_row, slot_cell, prev, next, row_slot, vacant, rows, place,
+        memory.slot_row,
+        memory.slot_cell,
+        memory.prev,
+        memory.next,
+        memory.row_slot,
+        vacant,
+        rows,
+        place,
     );
     cancel_rows(
-        reverse,
-        parent,
-        rank,
-        slot_row,
-        slot_cell,
-        prev,
-        next,
-        row_slot,
+        table.reverse,
+        memory.parent,
+        memory.rank,
+        memory.slot_row,
+        memory.slot_cell,
+        memory.prev,
+        memory.next,
+        memory.row_slot,
         vacant,
         rows,
         place + 1,
@@ -96,34 +94,23 @@ impl Pool {
     }
 
     // A newly opened state, whatever the memory held.
-    pub fn open(
-        head: &mut [u32],
-        cells: &mut [u64],
-        parent: &mut [u32],
-        rank: &mut [u32],
-        cell_mark: &mut [u32],
-        slot_row: &mut [u32],
-        slot_cell: &mut [u32],
-        prev: &mut [u32],
-        next: &mut [u32],
-        row_slot: &mut [u32],
-        row_mark: &mut [u32],
-        mode: usize,
-    )
-        requires { length head.old ≡ 2 }
-        ensures { memory head.new cells.new parent.new rank.new cell_mark.new slot_row.new slot_cell.new prev.new next.new row_slot.new row_mark.new
-            ≡ opened mode (memory head.old cells.old parent.old rank.old cell_mark.old slot_row.old slot_cell.old prev.old next.old row_slot.old row_mark.old) }
+    #[tactic(auto, unfolding(scope::specs::Memory::opened))]
+    pub fn open(memory: &mut Memory<'_>, marks: &mut Marks<'_>, mode: usize)
+        requires { length memory.old.head.now ≡ 2 }
+        ensures same_memory { SameMemory memory.old memory.new }
+        ensures same_marks { SameMarks marks.old marks.new }
+        ensures opened { memory_of memory.new marks.new ≡ opened mode (memory_of memory.old marks.old) }
     {
-        open_head(head, mode);
-        clear64(cells);
-        clear32(parent);
-        clear32(rank);
-        clear32(cell_mark);
-        clear32(slot_row);
-        clear32(slot_cell);
-        clear32(prev);
-        clear32(next);
-        clear32(row_slot);
-        clear32(row_mark);
+        open_head(memory.head, mode);
+        clear(memory.cells);
+        clear(memory.parent);
+        clear(memory.rank);
+        clear(marks.cell_mark);
+        clear(memory.slot_row);
+        clear(memory.slot_cell);
+        clear(memory.prev);
+        clear(memory.next);
+        clear(memory.row_slot);
+        clear(marks.row_mark);
     }
 }

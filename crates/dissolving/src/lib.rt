@@ -3,123 +3,74 @@
 #![tactic(auto)]
 
 ghost use Rattle.std.specs.Prelude.{◌≡◌};
-ghost use Rattle.scope.specs.Table.{table};
-ghost use Rattle.scope.specs.Memory.{memory, output, opened};
+ghost use Rattle.scope.specs.Memory.{opened};
 ghost use Rattle.scope.specs.Calls.{Reading, working};
+ghost use Rattle.lent.specs.Lent.{table_of, memory_of, output_of, SameMemory, SameMarks, SameOutput};
 ghost use Rattle.taking.specs.Taking.{TakesAll};
 ghost use Rattle.dissolving.specs.Work.{FillAsks, FinishAsks, finishing, WorkAsks};
 
-use answers::is_done;
 use arcs::Pool;
+use lent::{Marks, Memory, Output, Table};
 use reading::read_if;
-use scope::{ReadOut, Verdict};
+use scope::{ReadOut, Refusal};
 use taking::take_all;
 
 // Open, and offers in list order, up to the first that is refused.
 fn fill(
-    edges: &[u64],
-    reverse: &[u32],
-    area: &[f64],
-    head: &mut [u32],
-    cells: &mut [u64],
-    parent: &mut [u32],
-    rank: &mut [u32],
-    cell_mark: &mut [u32],
-    slot_row: &mut [u32],
-    slot_cell: &mut [u32],
-    prev: &mut [u32],
-    next: &mut [u32],
-    row_slot: &mut [u32],
-    row_mark: &mut [u32],
+    table: &Table<'_>,
+    memory: &mut Memory<'_>,
+    marks: &mut Marks<'_>,
     list: &[u64],
     mode: usize,
-) -> Verdict
-    requires { FillAsks (table edges.now reverse.now area.now) (memory head.old cells.old parent.old rank.old cell_mark.old slot_row.old slot_cell.old prev.old next.old row_slot.old row_mark.old) mode list.now }
-    ensures { TakesAll (table edges.now reverse.now area.now) (opened mode (memory head.old cells.old parent.old rank.old cell_mark.old slot_row.old slot_cell.old prev.old next.old row_slot.old row_mark.old)) list.now result (memory head.new cells.new parent.new rank.new cell_mark.new slot_row.new slot_cell.new prev.new next.new row_slot.new row_mark.new) }
+) -> Result<(), Refusal>
+    requires { FillAsks (table_of table.now) (memory_of memory.old marks.old) mode list.now }
+    ensures same_memory { SameMemory memory.old memory.new }
+    ensures same_marks { SameMarks marks.old marks.new }
+    ensures takes_all { TakesAll (table_of table.now) (opened mode (memory_of memory.old marks.old)) list.now result (memory_of memory.new marks.new) }
 {
-    Pool::open(
-        head, cells, parent, rank, cell_mark, slot_row, slot_cell, prev, next, row_slot, row_mark,
-        mode,
-    );
-    take_all(
-        edges, reverse, area, head, cells, parent, rank, cell_mark, slot_row, slot_cell, prev,
-        next, row_slot, row_mark, list,
-    )
+    Pool::open(memory, marks, mode);
+    take_all(table, memory, marks, list)
 }
 
 // Reads out where the verdict accepts; a refusal opens the state anew.
 fn finish(
-    area: &[f64],
-    head: &mut [u32],
-    cells: &mut [u64],
-    parent: &mut [u32],
-    rank: &mut [u32],
-    cell_mark: &mut [u32],
-    slot_row: &mut [u32],
-    slot_cell: &mut [u32],
-    prev: &mut [u32],
-    next: &mut [u32],
-    row_slot: &mut [u32],
-    row_mark: &mut [u32],
-    start: &mut [u32],
-    size: &mut [u32],
-    group: &mut [u32],
-    ring_area: &mut [f64],
-    ring_edges: &mut [u32],
-    verdict: Verdict,
+    table: &Table<'_>,
+    memory: &mut Memory<'_>,
+    marks: &mut Marks<'_>,
+    output: &mut Output<'_>,
+    verdict: Result<(), Refusal>,
     mode: usize,
-) -> ReadOut
-    requires { FinishAsks verdict area.now (memory head.old cells.old parent.old rank.old cell_mark.old slot_row.old slot_cell.old prev.old next.old row_slot.old row_mark.old) (output start.old size.old group.old ring_area.old ring_edges.old) }
-    ensures { record { answer = result; left = memory head.new cells.new parent.new rank.new cell_mark.new slot_row.new slot_cell.new prev.new next.new row_slot.new row_mark.new; out = output start.new size.new group.new ring_area.new ring_edges.new }
-        ≡ finishing verdict area.now mode (memory head.old cells.old parent.old rank.old cell_mark.old slot_row.old slot_cell.old prev.old next.old row_slot.old row_mark.old) (output start.old size.old group.old ring_area.old ring_edges.old) }
+) -> Result<ReadOut, Refusal>
+    requires { FinishAsks verdict (table_of table.now) (memory_of memory.old marks.old) (output_of output.old) }
+    ensures same_memory { SameMemory memory.old memory.new }
+    ensures same_marks { SameMarks marks.old marks.new }
+    ensures same_output { SameOutput output.old output.new }
+    ensures finishes { record { answer = result; left = memory_of memory.new marks.new; out = output_of output.new }
+        ≡ finishing verdict (table_of table.now) mode (memory_of memory.old marks.old) (output_of output.old) }
 {
-    let answer = read_if(
-        row_slot, slot_row, slot_cell, next, parent, head, area, row_mark, cell_mark, start, size,
-        group, ring_area, ring_edges, verdict,
-    );
-    if !is_done(answer) {
-        Pool::open(
-            head, cells, parent, rank, cell_mark, slot_row, slot_cell, prev, next, row_slot,
-            row_mark, mode,
-        );
+    let answer = read_if(table, &memory.as_state(), marks, output, verdict);
+    if answer.is_err() {
+        Pool::open(memory, marks, mode);
     }
     answer
 }
 
 // Open, offers in list order, and read out; refused, the state is opened anew.
 pub fn work(
-    edges: &[u64],
-    reverse: &[u32],
-    area: &[f64],
-    head: &mut [u32],
-    cells: &mut [u64],
-    parent: &mut [u32],
-    rank: &mut [u32],
-    cell_mark: &mut [u32],
-    slot_row: &mut [u32],
-    slot_cell: &mut [u32],
-    prev: &mut [u32],
-    next: &mut [u32],
-    row_slot: &mut [u32],
-    row_mark: &mut [u32],
+    table: &Table<'_>,
+    memory: &mut Memory<'_>,
+    marks: &mut Marks<'_>,
     list: &[u64],
-    start: &mut [u32],
-    size: &mut [u32],
-    group: &mut [u32],
-    ring_area: &mut [f64],
-    ring_edges: &mut [u32],
+    output: &mut Output<'_>,
     mode: usize,
-) -> ReadOut
-    requires { WorkAsks (table edges.now reverse.now area.now) (memory head.old cells.old parent.old rank.old cell_mark.old slot_row.old slot_cell.old prev.old next.old row_slot.old row_mark.old) mode list.now (output start.old size.old group.old ring_area.old ring_edges.old) }
-    ensures { record { answer = result; left = memory head.new cells.new parent.new rank.new cell_mark.new slot_row.new slot_cell.new prev.new next.new row_slot.new row_mark.new; out = output start.new size.new group.new ring_area.new ring_edges.new }
-        ≡ working (table edges.now reverse.now area.now) (memory head.old cells.old parent.old rank.old cell_mark.old slot_row.old slot_cell.old prev.old next.old row_slot.old row_mark.old) mode list.now (output start.old size.old group.old ring_area.old ring_edges.old) }
+) -> Result<ReadOut, Refusal>
+    requires { WorkAsks (table_of table.now) (memory_of memory.old marks.old) mode list.now (output_of output.old) }
+    ensures same_memory { SameMemory memory.old memory.new }
+    ensures same_marks { SameMarks marks.old marks.new }
+    ensures same_output { SameOutput output.old output.new }
+    ensures works { record { answer = result; left = memory_of memory.new marks.new; out = output_of output.new }
+        ≡ working (table_of table.now) (memory_of memory.old marks.old) mode list.now (output_of output.old) }
 {
-    let verdict = fill(
-        edges, reverse, area, head, cells, parent, rank, cell_mark, slot_row, slot_cell, prev,
-        next, row_slot, row_mark, list, mode,
-    );
-    finish(
-        area, head, cells, parent, rank, cell_mark, slot_row, slot_cell, prev, next, row_slot,
-        row_mark, start, size, group, ring_area, ring_edges, verdict, mode,
-    )
+    let verdict = fill(table, memory, marks, list, mode);
+    finish(table, memory, marks, output, verdict, mode)
 }

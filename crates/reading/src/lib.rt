@@ -1,59 +1,29 @@
 // A state read out where a verdict accepts it: its rings are built, or the refusal is handed on and nothing is written.
 #![tactic(auto)]
 
-ghost use Rattle.scope.specs.Lists.{at};
-ghost use Rattle.scope.specs.Memory.{output};
-ghost use Rattle.rings.specs.Views.{view_of};
-ghost use Rattle.reading.specs.Reading.{ReadAsks, ReadsIf};
+ghost use Rattle.std.specs.Prelude.{◌≡◌};
+ghost use Rattle.scope.specs.Calls.{Reading};
+ghost use Rattle.lent.specs.Lent.{table_of, state_of, output_of, SameMarks, SameOutput};
+ghost use Rattle.reading.specs.Reading.{ReadAsks, reading_if};
 
-use answers::{is_accepted, refusal};
+use lent::{Marks, Output, State, Table};
 use rings::build_rings;
-use scope::{ReadOut, Verdict};
-use slices::get32;
+use scope::{ReadOut, Refusal};
 
 // Reads out where the verdict accepts; an output that is too short is refused by 10. The marks are left as they were.
 pub fn read_if(
-    row_slot: &[u32],
-    slot_row: &[u32],
-    slot_cell: &[u32],
-    next: &[u32],
-    parent: &[u32],
-    head: &[u32],
-    area: &[f64],
-    row_mark: &mut [u32],
-    cell_mark: &mut [u32],
-    start: &mut [u32],
-    size: &mut [u32],
-    group: &mut [u32],
-    ring_area: &mut [f64],
-    ring_edges: &mut [u32],
-    verdict: Verdict,
-) -> ReadOut
-    requires { ReadAsks verdict
-        (view_of row_slot.now slot_row.now slot_cell.now next.now parent.now (at head.now 1) area.now)
-        head.now row_mark.old cell_mark.old (output start.old size.old group.old ring_area.old ring_edges.old) }
-    ensures { ReadsIf verdict
-        (view_of row_slot.now slot_row.now slot_cell.now next.now parent.now (at head.now 1) area.now)
-        row_mark.old cell_mark.old (output start.old size.old group.old ring_area.old ring_edges.old)
-        row_mark.new cell_mark.new (output start.new size.new group.new ring_area.new ring_edges.new) result }
+    table: &Table<'_>,
+    state: &State<'_>,
+    marks: &mut Marks<'_>,
+    output: &mut Output<'_>,
+    verdict: Result<(), Refusal>,
+) -> Result<ReadOut, Refusal>
+    requires { ReadAsks verdict (table_of table.now) (state_of state.now marks.old) (output_of output.old) }
+    ensures same_marks { SameMarks marks.old marks.new }
+    ensures same_output { SameOutput output.old output.new }
+    ensures reads_if { record { answer = result; left = state_of state.now marks.new; out = output_of output.new }
+        ≡ reading_if verdict (table_of table.now) (state_of state.now marks.old) (output_of output.old) }
 {
-    if !is_accepted(verdict) {
-        return refusal(verdict);
-    }
-    build_rings(
-        row_slot,
-        slot_row,
-        slot_cell,
-        next,
-        parent,
-        area,
-        row_mark,
-        cell_mark,
-        start,
-        size,
-        group,
-        ring_area,
-        ring_edges,
-        get32(head, 1),
-    )
+    verdict?;
+    build_rings(table, state, marks, output, state.held())
 }

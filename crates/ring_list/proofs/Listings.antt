@@ -3,7 +3,7 @@
 --     read_fits, dissolve_fits       so it is with the answers of the two calls
 --     read_refused, read_agreed, dissolve_refused, dissolve_agreed     refused, or the core's, by the number of records
 --     fills                          so there is room for what `fill_rings` writes
---     read_lists, dissolve_lists     and what it leaves is what is defined
+--     lists                          and what it leaves is what is defined
 -- Assumes nothing.
 use Prim.Native.Nat.{ℕ, ◌≤◌, zero-le}
 use native.Mathlib.Nat.{le_refl, le_trans}
@@ -14,11 +14,11 @@ use lib.Dec.{eqb, leb}
 use lib.ListN.{length}
 use lib.Ieee.{Float}
 use borrow.Author.Tests.{eqb-true, leb-true, eq-eqb, ne_eqb}
-use Rattle.scope.specs.declared.Verdict.{Verdict}
-use Rattle.scope.specs.declared.Verdict.TheVariants.{Accepted, Refused}
-use Rattle.scope.specs.declared.ReadOut.TheVariants as readout
+use Rattle.scope.specs.declared.Refusal.TheVariants.{BadLengths}
+use Rattle.std.specs.Prelude.{Err, Ok}
+use Rattle.scope.specs.declared.ReadOut.TheVariants.{Nothing, Closed, Outline}
 use Rattle.scope.specs.Lists.{head_or}
-use Rattle.scope.specs.Answers.{require, ◌▷◌, rings_of}
+use Rattle.scope.specs.Answers.{require, ◌▷◌, rings_of, Answer, Verdict}
 use Rattle.scope.specs.Table.{Table}
 use Rattle.scope.specs.Memory.{Memory, Output, outputs_agree, opened}
 use Rattle.scope.specs.Order.{View, view, ordered, lowest_rows, ring_order, read_answer, polygon_count, area_at}
@@ -26,8 +26,10 @@ use Rattle.scope.specs.Calls.{Reading, reading, read_from, read_verdict, reading
 use Rattle.scope.proofs.Sorting.{sort_length}
 use Rattle.scope.proofs.Tests.{and_left, and_right}
 use Rattle.scope.proofs.Verdicts.{first_accepts, second_accepts, require_holds}
-use Rattle.ring_records.specs.Records.{filled, Enough}
-use Rattle.ring_list.specs.Listing.{agreeing, listed, reading_agreed, dissolving_agreed, reading_rings, dissolving_rings}
+use Rattle.lent.specs.declared.Output.{Output as LentOutput}
+use Rattle.lent.specs.Lent.{output_of, SameOutput}
+use Rattle.ring_records.specs.Records.{filled}
+use Rattle.ring_list.specs.Listing.{agreeing, listed, reading_agreed, dissolving_agreed, Records}
 use Rattle.ring_records.specs.declared.Ring.{Ring}
 
 pub record Fits (n : ℕ) (o : Output) (d : Reading) : Type 0 where
@@ -39,7 +41,7 @@ pub record Fits (n : ℕ) (o : Output) (d : Reading) : Type 0 where
 
 -- ---- the counts of the calls' answers
 
-answer_counts : (a b : Bool) (p k : ℕ) (z : Float) → rings_of (cond a readout.Nothing (cond b readout.Closed (readout.Outline p k z))) ≤ k
+answer_counts : (a b : Bool) (p k : ℕ) (z : Float) → rings_of (cond a (Ok Nothing) (cond b (Ok Closed) (Ok (Outline p k z)))) ≤ k
 unfolding rings_of
 answer_counts true b p k z = zero-le
 answer_counts false true p k z = zero-le
@@ -54,10 +56,10 @@ same_length k a b e l = subst (λ (n : ℕ). k ≤ n) (sym e) l
 
 module _ (n : ℕ) (o : Output) where
   -- a refusal counts no ring
-  reading_fits : (v : Verdict) (d : Reading) (m : Memory) → (v ≡ Accepted → Fits n o d) → Fits n o (reading v d m o)
+  reading_fits : (v : Verdict) (d : Reading) (m : Memory) → (v ≡ Ok tt → Fits n o d) → Fits n o (reading v d m o)
   unfolding rings_of
-  reading_fits Accepted d m h = h refl
-  reading_fits (Refused number index) d m h = record { records = zero-le; starts = zero-le; sizes = zero-le; groups = zero-le; areas = zero-le }
+  reading_fits (Ok done) d m h = h refl
+  reading_fits (Err why) d m h = record { records = zero-le; starts = zero-le; sizes = zero-le; groups = zero-le; areas = zero-le }
 
   agree_sizes : outputs_agree o ≡ true → length o.size ≡ length o.start
   agree_sizes e = eqb-true _ _ (and_left (eqb (length o.size) (length o.start)) (eqb (length o.group) (length o.start)) (and_left _ (eqb (length o.area) (length o.start)) e))
@@ -84,28 +86,28 @@ pub read_fits : (t : Table) (m : Memory) (o : Output) (n : ℕ) → Fits n o (re
 unfolding reading_agreed reading_out read_verdict
 read_fits t m o n =
     reading_fits n o _ (reading_out t m o) m (λ same. reading_fits n o (read_verdict t m o) (read_from t m o) m (λ a.
-    from_fits n o t m (require_holds _ 10 0 same) (require_holds _ 10 0 (first_accepts _ (state_verdict t m ▷ require (output_fits (view t m) o) 10 0) a))
-    (require_holds _ 10 0 (second_accepts (state_verdict t m) _ (second_accepts (require (outputs_agree o) 10 0) _ a)))))
+    from_fits n o t m (require_holds _ BadLengths same) (require_holds _ BadLengths (first_accepts _ (state_verdict t m ▷ require (output_fits (view t m) o) BadLengths) a))
+    (require_holds _ BadLengths (second_accepts (state_verdict t m) _ (second_accepts (require (outputs_agree o) BadLengths) _ a)))))
 
 pub dissolve_fits : (t : Table) (m : Memory) (mode : ℕ) (cs : List ℕ) (o : Output) (n : ℕ) → Fits n o (dissolving_agreed t m mode cs o n)
 unfolding dissolving_agreed dissolving working dissolve_verdict
 dissolve_fits t m mode cs o n =
     let last = offering_all t (opened mode m) cs in
     reading_fits n o _ (dissolving t m mode cs o) m (λ same. reading_fits n o (dissolve_verdict t m mode cs o) (working t m mode cs o) m (λ a.
-    reading_fits n o (last.answer ▷ require (output_fits (view t last.left) o) 10 0) (read_from t last.left o) (opened mode m) (λ b.
-    from_fits n o t last.left (require_holds _ 10 0 same) (require_holds (outputs_agree o) 10 0 (first_accepts (require (outputs_agree o) 10 0) _ a)) (require_holds _ 10 0 (second_accepts last.answer _ b)))))
+    reading_fits n o (last.answer ▷ require (output_fits (view t last.left) o) BadLengths) (read_from t last.left o) (opened mode m) (λ b.
+    from_fits n o t last.left (require_holds _ BadLengths same) (require_holds (outputs_agree o) BadLengths (first_accepts (require (outputs_agree o) BadLengths) _ a)) (require_holds _ BadLengths (second_accepts last.answer _ b)))))
 
 -- ---- slices that disagree in length, and that agree
 
 module _ (n : ℕ) (o : Output) (d : Reading) (m : Memory) where
-  refused : (n ≡ length o.start → ⊥) → record { answer = readout.Refused 10 0; left = m; out = o } ≡ agreeing n o d m
-  refused e = ap (λ (b : Bool). reading (require b 10 0) d m o) (sym (ne_eqb n (length o.start) e))
+  refused : (n ≡ length o.start → ⊥) → record { answer = Err BadLengths; left = m; out = o } ≡ agreeing n o d m
+  refused e = ap (λ (b : Bool). reading (require b BadLengths) d m o) (sym (ne_eqb n (length o.start) e))
 
   carried_out : (d' : Reading) → n ≡ length o.start → d' ≡ d → d' ≡ agreeing n o d m
-  carried_out d' e same = same ∙ ap (λ (b : Bool). reading (require b 10 0) d m o) (sym (eq-eqb n (length o.start) e))
+  carried_out d' e same = same ∙ ap (λ (b : Bool). reading (require b BadLengths) d m o) (sym (eq-eqb n (length o.start) e))
 
 module _ (t : Table) (m : Memory) (o : Output) (n : ℕ) where
-  pub read_refused : (n ≡ length o.start → ⊥) → record { answer = readout.Refused 10 0; left = m; out = o } ≡ reading_agreed t m o n
+  pub read_refused : (n ≡ length o.start → ⊥) → record { answer = Err BadLengths; left = m; out = o } ≡ reading_agreed t m o n
   unfolding reading_agreed
   read_refused e = refused n o (reading_out t m o) m e
 
@@ -114,7 +116,7 @@ module _ (t : Table) (m : Memory) (o : Output) (n : ℕ) where
   read_agreed d e same = carried_out n o (reading_out t m o) m d e same
 
 module _ (t : Table) (m : Memory) (mode : ℕ) (cs : List ℕ) (o : Output) (n : ℕ) where
-  pub dissolve_refused : (n ≡ length o.start → ⊥) → record { answer = readout.Refused 10 0; left = m; out = o } ≡ dissolving_agreed t m mode cs o n
+  pub dissolve_refused : (n ≡ length o.start → ⊥) → record { answer = Err BadLengths; left = m; out = o } ≡ dissolving_agreed t m mode cs o n
   unfolding dissolving_agreed
   dissolve_refused e = refused n o (dissolving t m mode cs o) m e
 
@@ -124,25 +126,19 @@ module _ (t : Table) (m : Memory) (mode : ℕ) (cs : List ℕ) (o : Output) (n :
 
 -- ---- the records
 
-pub fills : (d d' : Reading) (o : Output) (rings : List Ring) → d ≡ d' → Fits (length rings) o d'
-    → length d.out.start ≡ length o.start → length d.out.size ≡ length o.size → length d.out.group ≡ length o.group → length d.out.area ≡ length o.area
-    → Enough (rings_of d.answer) rings d.out.start d.out.size d.out.group d.out.area
-fills d d' o rings e f s l g a =
-    let h = subst (Fits (length rings) o) (sym e) f in
-    (h.records, same_length _ _ _ s h.starts, same_length _ _ _ l h.sizes, same_length _ _ _ g h.groups, same_length _ _ _ a h.areas)
+pub fills : (rings : List Ring) {r : Answer} {left : Memory} {a b : LentOutput} {d : Reading} → record { answer = r; left = left; out = output_of b } ≡ d
+    → Fits (length rings) (output_of a) d → SameOutput a b → Records r rings (output_of b)
+fills rings {a = a} e f s =
+    let h = subst (Fits (length rings) (output_of a)) (sym e) f in (
+      h.records,
+      same_length _ _ _ s.start_length h.starts,
+      same_length _ _ _ s.size_length h.sizes,
+      same_length _ _ _ s.group_length h.groups,
+      same_length _ _ _ s.area_length h.areas,
+    )
 
-lists : (d d' : Reading) (rings : List Ring) (n : ℕ) (zs : List Ring) → d ≡ d' → n ≡ rings_of d.answer → zs ≡ filled d.out.start d.out.size d.out.group d.out.area n rings
-    → record { reading = d; rings = zs } ≡ listed d' rings
-lists d d' rings n zs e c z =
-    ap (λ (l : List Ring). record { reading = d; rings = l }) (z ∙ ap (λ (k : ℕ). filled d.out.start d.out.size d.out.group d.out.area k rings) c)
-    ∙ ap (λ (r : Reading). listed r rings) e
-
-pub read_lists : (t : Table) (m : Memory) (o : Output) (rings : List Ring) (d : Reading) (n : ℕ) (zs : List Ring) → d ≡ reading_agreed t m o (length rings) → n ≡ rings_of d.answer
-    → zs ≡ filled d.out.start d.out.size d.out.group d.out.area n rings → record { reading = d; rings = zs } ≡ reading_rings t m o rings
-unfolding reading_rings
-read_lists t m o rings d n zs e c z = lists d (reading_agreed t m o (length rings)) rings n zs e c z
-
-pub dissolve_lists : (t : Table) (m : Memory) (mode : ℕ) (cs : List ℕ) (o : Output) (rings : List Ring) (d : Reading) (n : ℕ) (zs : List Ring) → d ≡ dissolving_agreed t m mode cs o (length rings) → n ≡ rings_of d.answer
-    → zs ≡ filled d.out.start d.out.size d.out.group d.out.area n rings → record { reading = d; rings = zs } ≡ dissolving_rings t m mode cs o rings
-unfolding dissolving_rings
-dissolve_lists t m mode cs o rings d n zs e c z = lists d (dissolving_agreed t m mode cs o (length rings)) rings n zs e c z
+pub lists : (rings : List Ring) {r : Answer} {left : Memory} {o : Output} {d : Reading} → record { answer = r; left = left; out = o } ≡ d
+    → (rings' : List Ring) → rings' ≡ filled o.start o.size o.group o.area (rings_of r) rings
+    → record { reading = record { answer = r; left = left; out = o }; rings = rings' } ≡ listed d rings
+lists rings {r} {left} {o} e rings' z =
+    ap (λ (l : List Ring). record { reading = record { answer = r; left = left; out = o }; rings = l }) z ∙ ap (λ (x : Reading). listed x rings) e

@@ -4,120 +4,68 @@
 
 mod agreed;
 
-ghost use Rattle.scope.specs.Table.{table};
-ghost use Rattle.scope.specs.Memory.{memory, output};
-ghost use Rattle.ring_list.specs.Listing.{ReadsRings, DissolvesRings};
+ghost use Rattle.std.specs.Prelude.{◌≡◌};
+ghost use Rattle.scope.specs.Answers.{rings_of};
+ghost use Rattle.lent.specs.Lent.{table_of, memory_of, state_of, output_of, SameMemory, SameMarks, SameOutput};
+ghost use Rattle.ring_records.specs.Records.{filled};
+ghost use Rattle.ring_list.specs.Listing.{ReadsRings, DissolvesRings, Records};
 
 use agreed::{dissolve_agreed, read_out_agreed};
+use lent::{Marks, Memory, Output, State, Table};
 pub use ring_records::{Ring, fill_rings, ring_count};
-use scope::ReadOut;
+use scope::{ReadOut, Refusal};
+
+// The records of what an answer counts.
+fn list_rings(rings: &mut [Ring], output: &Output<'_>, answer: Result<ReadOut, Refusal>)
+    requires { Records answer rings.old (output_of output.now) }
+    ensures { rings.new ≡ filled output.now.start.now output.now.size.now output.now.group.now output.now.area.now (rings_of answer) rings.old }
+{
+    let count = ring_count(answer);
+    fill_rings(
+        rings,
+        output.start,
+        output.size,
+        output.group,
+        output.area,
+        count,
+    );
+}
 
 // Read out, and the records of what it has written. Refused, it leaves the records as they were.
 pub fn read_out(
     rings: &mut [Ring],
-    edges: &[u64],
-    reverse: &[u32],
-    area: &[f64],
-    head: &[u32],
-    cells: &[u64],
-    parent: &[u32],
-    rank: &[u32],
-    cell_mark: &mut [u32],
-    slot_row: &[u32],
-    slot_cell: &[u32],
-    prev: &[u32],
-    next: &[u32],
-    row_slot: &[u32],
-    row_mark: &mut [u32],
-    start: &mut [u32],
-    size: &mut [u32],
-    group: &mut [u32],
-    ring_area: &mut [f64],
-    ring_edges: &mut [u32],
-) -> ReadOut
-    ensures { ReadsRings (table edges.now reverse.now area.now) (memory head.now cells.now parent.now rank.now cell_mark.old slot_row.now slot_cell.now prev.now next.now row_slot.now row_mark.old) (output start.old size.old group.old ring_area.old ring_edges.old) rings.old
-        result (memory head.now cells.now parent.now rank.now cell_mark.new slot_row.now slot_cell.now prev.now next.now row_slot.now row_mark.new) (output start.new size.new group.new ring_area.new ring_edges.new) rings.new }
+    table: &Table<'_>,
+    state: &State<'_>,
+    marks: &mut Marks<'_>,
+    output: &mut Output<'_>,
+) -> Result<ReadOut, Refusal>
+    ensures same_marks { SameMarks marks.old marks.new }
+    ensures same_output { SameOutput output.old output.new }
+    ensures reads_rings { ReadsRings (table_of table.now) (state_of state.now marks.old) (output_of output.old) rings.old
+        result (state_of state.now marks.new) (output_of output.new) rings.new }
 {
-    let answer = read_out_agreed(
-        edges,
-        reverse,
-        area,
-        head,
-        cells,
-        parent,
-        rank,
-        cell_mark,
-        slot_row,
-        slot_cell,
-        prev,
-        next,
-        row_slot,
-        row_mark,
-        start,
-        size,
-        group,
-        ring_area,
-        ring_edges,
-        rings.len(),
-    );
-    let count = ring_count(answer);
-    fill_rings(rings, start, size, group, ring_area, count);
+    let answer = read_out_agreed(table, state, marks, output, rings.len());
+    list_rings(rings, output, answer);
     answer
 }
 
 // Dissolve, and the records of what it has written. Refused, it leaves the records as they were.
 pub fn dissolve(
     rings: &mut [Ring],
-    edges: &[u64],
-    reverse: &[u32],
-    area: &[f64],
-    head: &mut [u32],
-    cells: &mut [u64],
-    parent: &mut [u32],
-    rank: &mut [u32],
-    cell_mark: &mut [u32],
-    slot_row: &mut [u32],
-    slot_cell: &mut [u32],
-    prev: &mut [u32],
-    next: &mut [u32],
-    row_slot: &mut [u32],
-    row_mark: &mut [u32],
+    table: &Table<'_>,
+    memory: &mut Memory<'_>,
+    marks: &mut Marks<'_>,
     list: &[u64],
-    start: &mut [u32],
-    size: &mut [u32],
-    group: &mut [u32],
-    ring_area: &mut [f64],
-    ring_edges: &mut [u32],
+    output: &mut Output<'_>,
     mode: usize,
-) -> ReadOut
-    ensures { DissolvesRings (table edges.now reverse.now area.now) (memory head.old cells.old parent.old rank.old cell_mark.old slot_row.old slot_cell.old prev.old next.old row_slot.old row_mark.old) mode list.now (output start.old size.old group.old ring_area.old ring_edges.old) rings.old
-        result (memory head.new cells.new parent.new rank.new cell_mark.new slot_row.new slot_cell.new prev.new next.new row_slot.new row_mark.new) (output start.new size.new group.new ring_area.new ring_edges.new) rings.new }
+) -> Result<ReadOut, Refusal>
+    ensures same_memory { SameMemory memory.old memory.new }
+    ensures same_marks { SameMarks marks.old marks.new }
+    ensures same_output { SameOutput output.old output.new }
+    ensures dissolves_rings { DissolvesRings (table_of table.now) (memory_of memory.old marks.old) mode list.now (output_of output.old) rings.old
+        result (memory_of memory.new marks.new) (output_of output.new) rings.new }
 {
-    let answer = dissolve_agreed(
-        edges,
-        reverse,
-        area,
-        head,
-        cells,
-        parent,
-        rank,
-        cell_mark,
-        slot_row,
-        slot_cell,
-        prev,
-        next,
-        row_slot,
-        row_mark,
-        list,
-        start,
-        size,
-        group,
-        ring_area,
-        ring_edges,
-        mode,
-        rings.len(),
-    );
-    let count = ring_count(answer);
-    fill_rings(rings, start, size, group, ring_area, count);
+    let answer = dissolve_agreed(table, memory, marks, list, output, mode, rings.len());
+    list_rings(rings, output, answer);
     answer
 }

@@ -5,13 +5,13 @@
 use mathlib.Core.Path.{◌≡◌}
 use mathlib.Core.List.{List}
 use Prim.Native.Nat.{ℕ}
-use Rattle.scope.specs.declared.ReadOut.{ReadOut}
+use Rattle.scope.specs.Answers.{Answer}
 use Rattle.scope.specs.Table.{Table}
 use Rattle.scope.specs.Memory.{Memory, Output}
 use Rattle.scope.specs.Calls.{dissolving}
 use Rattle.standing.proofs.Determined.{readings}
 use Rattle.solvent.specs.Promises.{Dissolves}
 
-pub dissolve_determined : (t : Table) (m : Memory) (mode : ℕ) (cs : List ℕ) (o : Output) {r r' : ReadOut} {m' m'' : Memory} {o' o'' : Output}
+pub dissolve_determined : (t : Table) (m : Memory) (mode : ℕ) (cs : List ℕ) (o : Output) {r r' : Answer} {m' m'' : Memory} {o' o'' : Output}
     → Dissolves t m mode cs o r m' o' → Dissolves t m mode cs o r' m'' o'' → (r ≡ r') × (m' ≡ m'') × (o' ≡ o'')
 dissolve_determined t m mode cs o = readings (dissolving t m mode cs o)

@@ -1,16 +1,18 @@
 -- Open: its verdict from what was found of the lengths, and the call by that verdict.
 -- Assumes nothing.
-use mathlib.Core.Path.{◌≡◌, sym, ◌∙◌, ap}
-use mathlib.Core.Bool.{Bool, true, false, ◌&&◌}
+use mathlib.Core.Path.{◌≡◌, refl, sym, ◌∙◌, ap}
+use mathlib.Core.Bool.{Bool, ◌&&◌}
 use Prim.Native.Nat.{ℕ}
 use lib.ListN.{length}
-use Rattle.scope.specs.declared.Verdict.{Verdict}
-use Rattle.scope.specs.Answers.{require, ◌▷◌, is_accepted}
+use Rattle.std.specs.Prelude.{Ok, Err}
+use Rattle.scope.specs.declared.Refusal.{Refusal}
+use Rattle.scope.specs.declared.Refusal.TheVariants.{BadLengths}
+use Rattle.scope.specs.Answers.{require, Verdict}
 use Rattle.scope.specs.Table.{Table}
 use Rattle.scope.specs.Memory.{Memory, opened, lengths_fit, mode_fits}
 use Rattle.scope.specs.Calls.{outcome, open_verdict, opening}
 use Rattle.scope.proofs.Tests.{and_left}
-use Rattle.scope.proofs.Verdicts.{accepted, first_accepts, require_holds}
+use Rattle.scope.proofs.Verdicts.{first_accepts, require_holds}
 use Rattle.scope.proofs.Lengths.{lengths_good}
 use Rattle.answers.proofs.Outcomes.{carried_out, turned_down}
 use Rattle.admission.specs.Admits.{open_after}
@@ -21,16 +23,16 @@ module _ (t : Table) (m : Memory) (mode : ℕ) {fits : Bool} {v : Verdict} (f : 
   tested = q ∙ ap (λ (b : Bool). open_after b mode t) f ∙ open_is t m mode
 
   -- where both tests accept, the head has its two numbers
-  pub head_two : is_accepted v ≡ true → length m.head ≡ 2
+  pub head_two : v ≡ Ok tt → length m.head ≡ 2
   unfolding open_verdict
   head_two e =
-      let lengths = require_holds _ 10 0 (first_accepts (require (lengths_fit t m && mode_fits mode) 10 0) _ (sym tested ∙ accepted v e)) in
+      let lengths = require_holds _ BadLengths (first_accepts (require (lengths_fit t m && mode_fits mode) BadLengths) _ (sym tested ∙ e)) in
       (lengths_good t m (and_left _ _ lengths)).head
 
-  pub opens : is_accepted v ≡ true → {left : Memory} → left ≡ opened mode m → record { answer = v; left = left } ≡ opening t m mode
+  pub opens : v ≡ Ok tt → {left : Memory} → left ≡ opened mode m → record { answer = Ok tt; left = left } ≡ opening t m mode
   unfolding opening
-  opens e p = carried_out v (opened mode m) m e p ∙ ap (λ (w : Verdict). outcome w (opened mode m) m) tested
+  opens e p = carried_out (Ok tt) (opened mode m) m refl p ∙ ap (λ (w : Verdict). outcome w (opened mode m) m) (sym e ∙ tested)
 
-  pub opens_not : is_accepted v ≡ false → record { answer = v; left = m } ≡ opening t m mode
+  pub opens_not : {why : Refusal} → v ≡ Err why → record { answer = Err why; left = m } ≡ opening t m mode
   unfolding opening
-  opens_not e = turned_down v (opened mode m) m e ∙ ap (λ (w : Verdict). outcome w (opened mode m) m) tested
+  opens_not {why} e = turned_down (Err why) (opened mode m) m refl ∙ ap (λ (w : Verdict). outcome w (opened mode m) m) (sym e ∙ tested)

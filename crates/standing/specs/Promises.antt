@@ -2,11 +2,10 @@
 -- proofs/Determined has that each leaves one outcome.
 -- Assumes nothing.
 use Rattle.std.specs.Prelude.{ℕ, ◌≡◌}
-use Rattle.scope.specs.declared.Verdict.{Verdict}
-use Rattle.scope.specs.declared.ReadOut.{ReadOut}
+use Rattle.scope.specs.Answers.{Answer, Verdict}
 use Rattle.scope.specs.Table.{Table}
 use Rattle.scope.specs.Memory.{Memory, Output}
-use Rattle.scope.specs.Calls.{Outcome, opening, offering, Reading, reading_out}
+use Rattle.scope.specs.Calls.{opening, offering, reading_out}
 
 -- of a table, the memory lent and a mode: this answer, and this memory left
 abbrev pub Opens : Table → Memory → ℕ → Verdict → Memory → Type 0
@@ -17,5 +16,5 @@ abbrev pub Offers : Table → Memory → ℕ → Verdict → Memory → Type 0
 Offers t m cell answer left = record { answer = answer; left = left } ≡ offering t m cell
 
 -- of a table, the memory lent and the outputs
-abbrev pub ReadsOut : Table → Memory → Output → ReadOut → Memory → Output → Type 0
+abbrev pub ReadsOut : Table → Memory → Output → Answer → Memory → Output → Type 0
 ReadsOut t m o answer left out = record { answer = answer; left = left; out = out } ≡ reading_out t m o

@@ -2,122 +2,63 @@
 // Each takes any slices: what the definitions of `scope` say of the call is its answer and what it leaves.
 #![tactic(auto)]
 
-ghost use Rattle.scope.specs.Table.{table};
-ghost use Rattle.scope.specs.Memory.{memory, output};
+ghost use Rattle.lent.specs.Lent.{table_of, memory_of, state_of, output_of, SameMemory, SameMarks, SameOutput};
 ghost use Rattle.standing.specs.Promises.{Opens, Offers, ReadsOut};
 
-use admission::lengths::{both_agree, capacities_fit, three_agree};
+use admission::lengths::{lengths_fit, outputs_agree};
 use admission::{admit_verdict, open_verdict, state_verdict};
-use answers::is_accepted;
 use arcs::Pool;
+use lent::{Marks, Memory, Output, State, Table};
 use reading::read_if;
-use scope::{ReadOut, Verdict};
+use scope::{ReadOut, Refusal};
 use taking::take_all;
 
 // A newly opened state: 10, 1.
 pub fn open(
-    edges: &[u64],
-    reverse: &[u32],
-    area: &[f64],
-    head: &mut [u32],
-    cells: &mut [u64],
-    parent: &mut [u32],
-    rank: &mut [u32],
-    cell_mark: &mut [u32],
-    slot_row: &mut [u32],
-    slot_cell: &mut [u32],
-    prev: &mut [u32],
-    next: &mut [u32],
-    row_slot: &mut [u32],
-    row_mark: &mut [u32],
+    table: &Table<'_>,
+    memory: &mut Memory<'_>,
+    marks: &mut Marks<'_>,
     mode: usize,
-) -> Verdict
-    ensures { Opens (table edges.now reverse.now area.now) (memory head.old cells.old parent.old rank.old cell_mark.old slot_row.old slot_cell.old prev.old next.old row_slot.old row_mark.old) mode
-        result (memory head.new cells.new parent.new rank.new cell_mark.new slot_row.new slot_cell.new prev.new next.new row_slot.new row_mark.new) }
+) -> Result<(), Refusal>
+    ensures same_memory { SameMemory memory.old memory.new }
+    ensures same_marks { SameMarks marks.old marks.new }
+    ensures opens { Opens (table_of table.now) (memory_of memory.old marks.old) mode
+        result (memory_of memory.new marks.new) }
 {
-    let fits = both_agree(edges.len(), reverse.len(), area.len())
-        & (head.len() == 2)
-        & three_agree(cells.len(), parent.len(), rank.len(), cell_mark.len())
-        & three_agree(slot_row.len(), slot_cell.len(), prev.len(), next.len())
-        & both_agree(edges.len(), row_slot.len(), row_mark.len())
-        & capacities_fit(slot_row.len(), cells.len());
-    let verdict = open_verdict(edges, reverse, area, mode, fits);
-    if is_accepted(verdict) {
-        Pool::open(
-            head, cells, parent, rank, cell_mark, slot_row, slot_cell, prev, next, row_slot,
-            row_mark, mode,
-        );
-    }
-    verdict
+    open_verdict(table, mode, lengths_fit(table, &memory.as_state(), marks))?;
+    Pool::open(memory, marks, mode);
+    Ok(())
 }
 
 // One more cell: 10, 1, 9, 2, 3, 4, 3, 8, 5, 6, 7.
 pub fn offer(
-    edges: &[u64],
-    reverse: &[u32],
-    area: &[f64],
-    head: &mut [u32],
-    cells: &mut [u64],
-    parent: &mut [u32],
-    rank: &mut [u32],
-    cell_mark: &mut [u32],
-    slot_row: &mut [u32],
-    slot_cell: &mut [u32],
-    prev: &mut [u32],
-    next: &mut [u32],
-    row_slot: &mut [u32],
-    row_mark: &mut [u32],
+    table: &Table<'_>,
+    memory: &mut Memory<'_>,
+    marks: &mut Marks<'_>,
     cell: u64,
-) -> Verdict
-    ensures { Offers (table edges.now reverse.now area.now) (memory head.old cells.old parent.old rank.old cell_mark.old slot_row.old slot_cell.old prev.old next.old row_slot.old row_mark.old) cell
-        result (memory head.new cells.new parent.new rank.new cell_mark.new slot_row.new slot_cell.new prev.new next.new row_slot.new row_mark.new) }
+) -> Result<(), Refusal>
+    ensures same_memory { SameMemory memory.old memory.new }
+    ensures same_marks { SameMarks marks.old marks.new }
+    ensures offers { Offers (table_of table.now) (memory_of memory.old marks.old) cell
+        result (memory_of memory.new marks.new) }
 {
-    let verdict = admit_verdict(
-        edges, reverse, area, head, cells, parent, rank, cell_mark, slot_row, slot_cell, prev,
-        next, row_slot, row_mark, cell,
-    );
-    if !is_accepted(verdict) {
-        return verdict;
-    }
+    admit_verdict(table, &memory.as_state(), marks, cell)?;
     let list = [cell];
-    take_all(
-        edges, reverse, area, head, cells, parent, rank, cell_mark, slot_row, slot_cell, prev,
-        next, row_slot, row_mark, &list,
-    )
+    take_all(table, memory, marks, &list)
 }
 
 // The rings of the state: 10, 1, 9, and 10 where an output is too short.
 pub fn read_out(
-    edges: &[u64],
-    reverse: &[u32],
-    area: &[f64],
-    head: &[u32],
-    cells: &[u64],
-    parent: &[u32],
-    rank: &[u32],
-    cell_mark: &mut [u32],
-    slot_row: &[u32],
-    slot_cell: &[u32],
-    prev: &[u32],
-    next: &[u32],
-    row_slot: &[u32],
-    row_mark: &mut [u32],
-    start: &mut [u32],
-    size: &mut [u32],
-    group: &mut [u32],
-    ring_area: &mut [f64],
-    ring_edges: &mut [u32],
-) -> ReadOut
-    ensures { ReadsOut (table edges.now reverse.now area.now) (memory head.now cells.now parent.now rank.now cell_mark.old slot_row.now slot_cell.now prev.now next.now row_slot.now row_mark.old) (output start.old size.old group.old ring_area.old ring_edges.old)
-        result (memory head.now cells.now parent.now rank.now cell_mark.new slot_row.now slot_cell.now prev.now next.now row_slot.now row_mark.new) (output start.new size.new group.new ring_area.new ring_edges.new) }
+    table: &Table<'_>,
+    state: &State<'_>,
+    marks: &mut Marks<'_>,
+    output: &mut Output<'_>,
+) -> Result<ReadOut, Refusal>
+    ensures same_marks { SameMarks marks.old marks.new }
+    ensures same_output { SameOutput output.old output.new }
+    ensures reads_out { ReadsOut (table_of table.now) (state_of state.now marks.old) (output_of output.old)
+        result (state_of state.now marks.new) (output_of output.new) }
 {
-    let agree = three_agree(start.len(), size.len(), group.len(), ring_area.len());
-    let verdict = state_verdict(
-        edges, reverse, area, head, cells, parent, rank, cell_mark, slot_row, slot_cell, prev,
-        next, row_slot, row_mark, agree,
-    );
-    read_if(
-        row_slot, slot_row, slot_cell, next, parent, head, area, row_mark, cell_mark, start, size,
-        group, ring_area, ring_edges, verdict,
-    )
+    let verdict = state_verdict(table, state, marks, outputs_agree(output));
+    read_if(table, state, marks, output, verdict)
 }

@@ -3,40 +3,36 @@
 use mathlib.Core.Path.{◌≡◌, refl, sym, ◌∙◌, ap, subst}
 use mathlib.Core.Bool.{Bool, true, false, not, cond}
 use mathlib.Core.List.{List, [], ◌∷◌, ◌++◌, map, Memᴰ}
-use Prim.Native.Nat.{ℕ, suc, ◌+◌, ◌<◌, ◌≤◌, ◌^◌}
-use native.Mathlib.Numerals.{add-one}
+use Prim.Native.Nat.{ℕ, ◌+◌, ◌<◌, ◌≤◌}
 use native.Mathlib.Omega.{arith}
 use lib.Dec.{ltb}
 use lib.ListN.{length, take}
 use lib.Seq.{length-take-le}
 use borrow.Author.Tests.{ltb-true, ltb-false}
-use Rattle.scope.specs.declared.Found.{Found}
-use Rattle.scope.specs.declared.Found.TheVariants.{At, Absent}
+use Rattle.std.specs.Prelude.{Some, None}
 use Rattle.scope.specs.Lists.{at}
 use Rattle.scope.specs.Cells.{resolution_of}
 use Rattle.scope.specs.Walk.{outline}
 use Rattle.scope.specs.Table.{row_of, find_row}
 use Rattle.scope.proofs.Tests.{clash}
-use Rattle.scope.proofs.Members.{mem_dec}
-use Rattle.taking.specs.declared.lookup.Outlined.{Outlined}
-use Rattle.taking.specs.Outlines.{rows_of, OutlineAsks, Marks, RowAsks, StoresRow, Finds, FindsMarked}
+use Rattle.taking.specs.Outlines.{OutlineAsks, Marks, RowAsks, StoresRow, FindsMarked}
 use Rattle.taking.proofs.Walked.{Walked, walked_start, walked_inside, walked_few, walked_room, walked_new, walked_again, walked_absent, walked_all, walked_rows, walked_twice}
 
 -- ---- what the search for an edge's row says
 
-row_found : (es : List ℕ) (e r : ℕ) → At r ≡ find_row es e → (r ≡ row_of es e) × (row_of es e < length es)
+row_found : (es : List ℕ) (e r : ℕ) → Some r ≡ find_row es e → (r ≡ row_of es e) × (row_of es e < length es)
 unfolding find_row
 row_found es e r q = go (ltb (row_of es e) (length es)) refl q
   where
-    go : (b : Bool) → ltb (row_of es e) (length es) ≡ b → At r ≡ cond b (At (row_of es e)) Absent → (r ≡ row_of es e) × (row_of es e < length es)
+    go : (b : Bool) → ltb (row_of es e) (length es) ≡ b → Some r ≡ cond b (Some (row_of es e)) None → (r ≡ row_of es e) × (row_of es e < length es)
     go true t p = (cc, ltb-true _ _ t)
     go false t p = let z : ◌≡◌ {A = ℕ} 0 1 = cc in absurd (omega arith)
 
-row_missed : (es : List ℕ) (e : ℕ) → Absent ≡ find_row es e → length es ≤ row_of es e
+row_missed : (es : List ℕ) (e : ℕ) → None ≡ find_row es e → length es ≤ row_of es e
 unfolding find_row
 row_missed es e q = go (ltb (row_of es e) (length es)) refl q
   where
-    go : (b : Bool) → ltb (row_of es e) (length es) ≡ b → Absent ≡ cond b (At (row_of es e)) Absent → length es ≤ row_of es e
+    go : (b : Bool) → ltb (row_of es e) (length es) ≡ b → None ≡ cond b (Some (row_of es e)) None → length es ≤ row_of es e
     go true t p = let z : ◌≡◌ {A = ℕ} 0 1 = cc in absurd (omega arith)
     go false t p = ltb-false _ _ t
 
@@ -68,7 +64,7 @@ module _ {es mark₀ rows₀ : List ℕ} {x : ℕ} (asks : OutlineAsks es mark�
     stored_many : length (take count rows) ≡ count
     stored_many = length-take-le count rows L.stored_in
 
-    pub looking_absent : Absent ≡ find_row es e → FindsMarked es x mark rows (record { count = count; absent = true; twice = twice })
+    pub looking_absent : None ≡ find_row es e → FindsMarked es x mark rows (record { count = count; absent = true; twice = twice })
     looking_absent f =
         let gone = walked_absent here (row_missed es e f) in
         record {
@@ -82,7 +78,7 @@ module _ {es mark₀ rows₀ : List ℕ} {x : ℕ} (asks : OutlineAsks es mark�
           inside = walked_inside L.walked;
         }
 
-    module _ {row : ℕ} (f : At row ≡ find_row es e) where
+    module _ {row : ℕ} (f : Some row ≡ find_row es e) where
       row_low : row < length es
       row_low = let r = row_found es e row f in omega (arith, r.0, r.1)
 

@@ -12,11 +12,11 @@ use Prim.Native.Nat.{ℕ, suc, ◌+◌, ◌<◌, ◌≤◌}
 use native.Mathlib.Numerals.{add-one}
 use native.Mathlib.Omega.{arith}
 use lib.ListN.{length, set, take, drop, length-set, length-replicate, get_or-replicate, drop_of_length-le}
-use lib.Seq.{get_or-set_same, get_or-set_other, take-suc-set, drop-cons, length-take-le, get_or-take, ext_get_or}
+use lib.Seq.{get_or-set_same, get_or-set_other, take-suc-set, drop-cons, ext_get_or}
 use Rattle.scope.specs.Lists.{at, zeros}
 use Rattle.scope.proofs.Tests.{clash}
 use Rattle.scope.proofs.Members.{cases, mem_dec, mem_at}
-use Rattle.taking.specs.Outlines.{Marks, RowAsks, StoresRow, UnmarkAsks}
+use Rattle.taking.specs.Outlines.{RowAsks, StoresRow, UnmarkAsks}
 
 -- ---- one row
 
@@ -64,43 +64,37 @@ module _ {mark rows : List ℕ} {count row : ℕ} (asks : RowAsks mark rows coun
 
 -- ---- all of them
 
-pub record Clearing (mark₀ rows : List ℕ) (n : ℕ) (mark : List ℕ) (i : ℕ) : Type 0 where
-  pub within : i ≤ n
+pub record Clearing (mark₀ stored mark : List ℕ) (i : ℕ) : Type 0 where
+  pub within : i ≤ length stored
   pub long : length mark ≡ length mark₀
-  pub off : (a : ℕ) → (Memᴰ a (drop i (take n rows)) → ⊥) → at mark a ≡ 0
+  pub off : (a : ℕ) → (Memᴰ a (drop i stored) → ⊥) → at mark a ≡ 0
 
-module _ {mark₀ rows : List ℕ} {n : ℕ} (asks : UnmarkAsks mark₀ rows n) where
-  pub clearing_start : Clearing mark₀ rows n mark₀ 0
+module _ {mark₀ stored : List ℕ} (asks : UnmarkAsks mark₀ stored) where
+  pub clearing_start : Clearing mark₀ stored mark₀ 0
   clearing_start = record { within = omega arith; long = refl; off = asks.off }
 
-  stored_long : length (take n rows) ≡ n
-  stored_long = length-take-le n rows asks.count_in
+  pub clearing_row : (i : ℕ) → i < length stored → at stored i < length mark₀
+  clearing_row i h = asks.inside (at stored i) (mem_at stored i h)
 
-  pub clearing_row : (i : ℕ) → i < n → at rows i < length mark₀
-  clearing_row i h = asks.inside (at rows i) (subst (λ (a : ℕ). Memᴰ a (take n rows)) (get_or-take n rows i 0 h) (mem_at (take n rows) i (rw stored_long h)))
-
-  module _ {mark : List ℕ} {i : ℕ} (c : Clearing mark₀ rows n mark i) where
-    pub clearing_more : i < n → {mark' : List ℕ} → mark' ≡ set mark (at rows i) 0 → Clearing mark₀ rows n mark' (i + 1)
+  module _ {mark : List ℕ} {i : ℕ} (c : Clearing mark₀ stored mark i) where
+    pub clearing_more : i < length stored → {mark' : List ℕ} → mark' ≡ set mark (at stored i) 0 → Clearing mark₀ stored mark' (i + 1)
     clearing_more h {mark'} p = record {
       within = omega arith;
-      long = ap length p ∙ length-set mark (at rows i) 0 ∙ c.long;
-      off = λ a m. rw p (cases a (at rows i)
-          (λ (e : a ≡ at rows i). rw e (get_or-set_same mark (at rows i) 0 0 (rw c.long (clearing_row i h))))
-          (λ d. get_or-set_other mark (at rows i) a 0 0 d ∙ c.off a (λ k. m (rw (add-one i) (later a d k)))));
+      long = ap length p ∙ length-set mark (at stored i) 0 ∙ c.long;
+      off = λ a m. rw p (cases a (at stored i)
+          (λ (e : a ≡ at stored i). rw e (get_or-set_same mark (at stored i) 0 0 (rw c.long (clearing_row i h))))
+          (λ d. get_or-set_other mark (at stored i) a 0 0 d ∙ c.off a (λ k. m (rw (add-one i) (later a d k)))));
     }
       where
-        front : drop i (take n rows) ≡ at rows i ∷ drop (suc i) (take n rows)
-        front = drop-cons (take n rows) i 0 (rw stored_long h) ∙ ap (λ (a : ℕ). a ∷ drop (suc i) (take n rows)) (get_or-take n rows i 0 h)
+        later : (a : ℕ) → (a ≡ at stored i → ⊥) → Memᴰ a (drop i stored) → Memᴰ a (drop (suc i) stored)
+        later a d m = ⊎_elim (λ e. absurd (d e)) (λ k. k) (Memᴰ.cases_cons (subst (λ (l : List ℕ). Memᴰ a l) (drop-cons stored i 0 h) m))
 
-        later : (a : ℕ) → (a ≡ at rows i → ⊥) → Memᴰ a (drop i (take n rows)) → Memᴰ a (drop (suc i) (take n rows))
-        later a d m = ⊎_elim (λ e. absurd (d e)) (λ k. k) (Memᴰ.cases_cons (subst (λ (l : List ℕ). Memᴰ a l) front m))
-
-    pub clearing_done : n ≤ i → mark ≡ zeros mark₀
+    pub clearing_done : length stored ≤ i → mark ≡ zeros mark₀
     clearing_done h = ext_get_or 0 mark (zeros mark₀) (c.long ∙ sym (length-replicate (length mark₀) 0))
         (λ a l. c.off a (none a) ∙ sym (get_or-replicate (length mark₀) a 0 0 (rw c.long at l)))
       where
-        none : (a : ℕ) → Memᴰ a (drop i (take n rows)) → ⊥
-        none a m = Memᴰ.not-nil (subst (λ (l : List ℕ). Memᴰ a l) (drop_of_length-le (take n rows) {i = i} (rw stored_long h)) m)
+        none : (a : ℕ) → Memᴰ a (drop i stored) → ⊥
+        none a m = Memᴰ.not-nil (subst (λ (l : List ℕ). Memᴰ a l) (drop_of_length-le stored {i = i} h) m)
 
 pub marks_clear : (mark : List ℕ) → ((a : ℕ) → at mark a ≡ 0) → zeros mark ≡ mark
 marks_clear mark f =

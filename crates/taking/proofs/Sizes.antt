@@ -1,11 +1,15 @@
--- Memories of the same sizes: each slice as long as before. A newly opened state depends on nothing else.
+-- Memories of the same sizes: each slice as long as before, as of a memory that is lent and handed back. A newly opened state depends on
+-- nothing else.
 -- Assumes nothing.
-use mathlib.Core.Path.{◌≡◌, refl, sym, ◌∙◌, ap}
+use mathlib.Core.Path.{◌≡◌, refl, ◌∙◌, ap}
 use mathlib.Core.List.{List}
 use Prim.Native.Nat.{ℕ}
 use lib.ListN.{length, replicate}
 use Rattle.scope.specs.Lists.{zeros}
-use Rattle.scope.specs.Memory.{Memory, memory, opened}
+use Rattle.scope.specs.Memory.{Memory, opened}
+use Rattle.lent.specs.declared.Memory.{Memory as LentMemory}
+use Rattle.lent.specs.declared.Marks.{Marks}
+use Rattle.lent.specs.Lent.{memory_of, SameMemory, SameMarks}
 
 pub record Sized (m₀ m : Memory) : Type 0 where
   pub head : length m.head ≡ length m₀.head
@@ -19,6 +23,21 @@ pub record Sized (m₀ m : Memory) : Type 0 where
   pub next : length m.next ≡ length m₀.next
   pub row_slot : length m.row_slot ≡ length m₀.row_slot
   pub row_mark : length m.row_mark ≡ length m₀.row_mark
+
+pub sized_same : {a b : LentMemory} {k l : Marks} → SameMemory a b → SameMarks k l → Sized (memory_of a k) (memory_of b l)
+sized_same p q = record {
+  head = p.head_length;
+  cells = p.cells_length;
+  parent = p.parent_length;
+  rank = p.rank_length;
+  cell_mark = q.cell_mark_length;
+  slot_row = p.slot_row_length;
+  slot_cell = p.slot_cell_length;
+  prev = p.prev_length;
+  next = p.next_length;
+  row_slot = p.row_slot_length;
+  row_mark = q.row_mark_length;
+}
 
 pub sized_refl : (m : Memory) → Sized m m
 sized_refl m = record { head = refl; cells = refl; parent = refl; rank = refl; cell_mark = refl; slot_row = refl; slot_cell = refl; prev = refl; next = refl; row_slot = refl; row_mark = refl }

@@ -76,7 +76,7 @@ pub record FindsMarked (es : List ℕ) (x : ℕ) (mark rows : List ℕ) (r : Out
   pub marks : Marks mark (take r.count rows)
   pub inside : (a : ℕ) → Memᴰ a (take r.count rows) → a < length es
 
-pub record UnmarkAsks (mark rows : List ℕ) (n : ℕ) : Type 0 where
-  pub count_in : n ≤ length rows
-  pub inside : (a : ℕ) → Memᴰ a (take n rows) → a < length mark
-  pub off : (a : ℕ) → (Memᴰ a (take n rows) → ⊥) → at mark a ≡ 0
+-- Only these rows are marked.
+pub record UnmarkAsks (mark stored : List ℕ) : Type 0 where
+  pub inside : (a : ℕ) → Memᴰ a stored → a < length mark
+  pub off : (a : ℕ) → (Memᴰ a stored → ⊥) → at mark a ≡ 0

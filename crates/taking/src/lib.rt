@@ -6,73 +6,42 @@ mod lookup;
 mod scratch;
 mod take;
 
-ghost use Rattle.scope.specs.Table.{table};
-ghost use Rattle.scope.specs.Memory.{memory};
+ghost use Rattle.lent.specs.Lent.{table_of, memory_of, SameMemory, SameMarks};
 ghost use Rattle.taking.specs.Taking.{ListAsks, TakesAll};
 
+use lent::{Marks, Memory, Table};
 use list::take_list;
-use scope::Verdict;
-use scratch::{FEW_NOTES, FEW_ROWS, blank_notes, blank_rows, few_suffice};
+use scope::Refusal;
+use scratch::{FEW_NOTES, FEW_ROWS, MAX_NOTES, MAX_ROWS, blank, few_suffice};
 
 // The cells of a list that passes, in turn, up to the first that is refused. A local array is cleared at every call, so short ones serve where they can.
 pub fn take_all(
-    edges: &[u64],
-    reverse: &[u32],
-    area: &[f64],
-    head: &mut [u32],
-    cells: &mut [u64],
-    parent: &mut [u32],
-    rank: &mut [u32],
-    cell_mark: &[u32],
-    slot_row: &mut [u32],
-    slot_cell: &mut [u32],
-    prev: &mut [u32],
-    next: &mut [u32],
-    row_slot: &mut [u32],
-    row_mark: &mut [u32],
+    table: &Table<'_>,
+    memory: &mut Memory<'_>,
+    marks: &mut Marks<'_>,
     list: &[u64],
-) -> Verdict
-    requires { ListAsks (table edges.now reverse.now area.now) (memory head.old cells.old parent.old rank.old cell_mark.now slot_row.old slot_cell.old prev.old next.old row_slot.old row_mark.old) list.now }
-    ensures { TakesAll (table edges.now reverse.now area.now) (memory head.old cells.old parent.old rank.old cell_mark.now slot_row.old slot_cell.old prev.old next.old row_slot.old row_mark.old) list.now result (memory head.new cells.new parent.new rank.new cell_mark.now slot_row.new slot_cell.new prev.new next.new row_slot.new row_mark.new) }
+) -> Result<(), Refusal>
+    requires { ListAsks (table_of table.now) (memory_of memory.old marks.old) list.now }
+    ensures same_memory { SameMemory memory.old memory.new }
+    ensures same_marks { SameMarks marks.old marks.new }
+    ensures takes_all { TakesAll (table_of table.now) (memory_of memory.old marks.old) list.now result (memory_of memory.new marks.new) }
 {
-    if few_suffice(edges, list) {
+    if few_suffice(table.edges, list) {
         return take_list(
-            edges,
-            reverse,
-            area,
-            head,
-            cells,
-            parent,
-            rank,
-            cell_mark,
-            slot_row,
-            slot_cell,
-            prev,
-            next,
-            row_slot,
-            row_mark,
-            &mut [0u32; FEW_NOTES],
-            &mut [0u32; FEW_ROWS],
+            table,
+            memory,
+            marks,
+            &mut [0; FEW_NOTES],
+            &mut [0; FEW_ROWS],
             list,
         );
     }
     take_list(
-        edges,
-        reverse,
-        area,
-        head,
-        cells,
-        parent,
-        rank,
-        cell_mark,
-        slot_row,
-        slot_cell,
-        prev,
-        next,
-        row_slot,
-        row_mark,
-        &mut blank_notes(),
-        &mut blank_rows(),
+        table,
+        memory,
+        marks,
+        &mut blank::<MAX_NOTES>(),
+        &mut blank::<MAX_ROWS>(),
         list,
     )
 }

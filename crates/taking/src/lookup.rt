@@ -7,9 +7,9 @@ ghost use Rattle.taking.specs.Outlines.{OutlineAsks, Finds, FindsMarked, UnmarkA
 use gosper::Gosper;
 use index::resolution;
 use row_search::notes::find_noted;
-use scope::Found;
 use slices::{get32, put32};
 
+// The count is needed beside either fault: by it the rows that are stored are unmarked.
 // How many different rows are stored, whether an edge is absent from the table, and whether one is named twice.
 #[derive(Clone, Copy)]
 pub struct Outlined {
@@ -32,18 +32,18 @@ fn store_row(row_mark: &mut [u32], rows: &mut [u32], count: usize, row: usize) -
 }
 
 // Clears the marks of the rows that are stored.
-fn unmark_rows(row_mark: &mut [u32], rows: &[u32], count: usize)
-    requires { UnmarkAsks row_mark.old rows.now count }
+#[tactic(auto, using(crate::proofs::Marking::clearing_start, crate::proofs::Marking::clearing_row, crate::proofs::Marking::clearing_more))]
+fn unmark_rows(row_mark: &mut [u32], rows: &[u32])
+    requires { UnmarkAsks row_mark.old rows.now }
     ensures { row_mark.new ≡ zeros row_mark.old }
 {
-    let mut i: usize = 0;
-    while i < count {
-        put32(row_mark, get32(rows, i), 0);
-        i += 1;
+    for &row in rows {
+        put32(row_mark, row as usize, 0);
     }
 }
 
-// Walks the outline and stores its different rows, marked, up to an edge that is absent.
+// Walks the outline and stores its different rows, marked, up to an edge that is absent. The walk hands its state back with each edge, so it is
+// no iterator.
 fn mark_rows(
     edges: &[u64],
     notes: &[u32],
@@ -60,11 +60,11 @@ fn mark_rows(
     while 0 < walk.len() {
         let stepped = walk.step();
         walk = stepped.walk;
-        let Found::At(row) = find_noted(edges, notes, stepped.edge) else {
+        let Some(row) = find_noted(edges, notes, stepped.edge) else {
             return Outlined {
-                count: count,
+                count,
                 absent: true,
-                twice: twice,
+                twice,
             };
         };
         if store_row(row_mark, rows, count, row) {
@@ -74,9 +74,9 @@ fn mark_rows(
         }
     }
     Outlined {
-        count: count,
+        count,
         absent: false,
-        twice: twice,
+        twice,
     }
 }
 
@@ -92,6 +92,6 @@ pub fn outline_rows(
     ensures { Finds edges.now cell rows.new result × (row_mark.new ≡ row_mark.old) }
 {
     let outlined = mark_rows(edges, notes, row_mark, rows, cell);
-    unmark_rows(row_mark, rows, outlined.count);
+    unmark_rows(row_mark, &rows[..outlined.count]);
     outlined
 }

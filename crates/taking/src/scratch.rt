@@ -7,9 +7,9 @@ use index::resolution;
 use row_search::notes::note_rows;
 
 // The most rows of a table, and so of an outline that is taken; and of notes.
-const MAX_ROWS: usize = 65536;
+pub(crate) const MAX_ROWS: usize = 65536;
 
-const MAX_NOTES: usize = 131072;
+pub(crate) const MAX_NOTES: usize = 131072;
 
 // Rows of a small table, and notes for them.
 pub(crate) const FEW_ROWS: usize = 4096;
@@ -19,16 +19,11 @@ pub(crate) const FEW_NOTES: usize = 16384;
 // Fewer cells than these are sooner looked up than the rows noted.
 const FEW_CELLS: usize = 8;
 
-pub(crate) fn blank_rows() -> [u32; MAX_ROWS]
-    ensures { 65536 ≡ length result }
+// So many places, none filled, in a call of its own: a local array is cleared where its function begins.
+pub(crate) fn blank<const N: usize>() -> [u32; N]
+    ensures { length result ≡ N }
 {
-    [0; MAX_ROWS]
-}
-
-pub(crate) fn blank_notes() -> [u32; MAX_NOTES]
-    ensures { 131072 ≡ length result }
-{
-    [0; MAX_NOTES]
+    [0; N]
 }
 
 // At most four resolutions coarser than the target: at most 6 · 3^4 edges in its outline.
@@ -41,17 +36,11 @@ fn is_near(cell: u64, target: usize) -> bool
 fn all_near(list: &[u64], target: usize) -> bool
     ensures { result ≡ passes (near_at target list.now) (length list.now) }
 {
-    let mut i: usize = 0;
-    while i < list.len() {
-        if !is_near(list[i], target) {
-            return false;
-        }
-        i += 1;
-    }
-    true
+    list.iter().all(|&cell| is_near(cell, target))
 }
 
 // Whether short arrays serve: for a small table, and for a few cells with short outlines.
+#[tactic(auto, unfolding(crate::specs::Outlines::few_suffice))]
 pub(crate) fn few_suffice(edges: &[u64], list: &[u64]) -> bool
     requires { 0 < length edges.now }
     ensures { result ≡ few_suffice edges.now list.now }

@@ -1,22 +1,28 @@
 -- `admission::state_verdict` meets its contract. The lengths, the table, the rules.
 -- Assumes nothing.
 use mathlib.Core.Bool.{not}
-use Rattle.scope.specs.Table.{table}
-use Rattle.scope.specs.Memory.{memory}
-use mathlib.Core.Path.{sym, ◌∙◌, ap}
+use mathlib.Core.Path.{◌≡◌, sym, ◌∙◌, ap}
+use Rattle.std.proofs.Common.{rules, Err}
 use Rattle.scope.proofs.Tests.{fails, holds}
-use Rattle.admission.proofs.Fitting.{lengths_are}
+use Rattle.lent.specs.Lent.{table_of, state_of}
 use Rattle.admission.proofs.Refusals.{rules_asks, state_stops, state_rules}
 use Rattle.admission.proofs.state_verdict.Goals as goal
 
-pub returns-then-not-is_accepted : goal.returns-then-not-is_accepted
-returns-then-not-is_accepted c = let a = c.args in let t = table a.edges.now a.reverse.now a.area.now in let m = memory a.head.now a.cells.now a.parent.now a.rank.now a.cell_mark.now a.slot_row.now a.slot_cell.now a.prev.now a.next.now a.row_slot.now a.row_mark.now in let f = lengths_are t m c.both_agree.ensures c.three_agree.ensures c.three_agree-2.ensures c.both_agree-2.ensures c.capacities_fit.ensures in state_stops t m a.agree f c.table_verdict-checked.ensures (fails c.is_accepted.ensures (ap not c.if-not-is_accepted.true))
+pub returns-in_err-table_verdict : goal.returns-in_err-table_verdict
+returns-in_err-table_verdict c =
+    let handed_on : c.from_residual.result ≡ Err c.in_err-table_verdict.field-0.0 = search rules in
+    handed_on ∙ state_stops (table_of c.args.table.now) (state_of c.args.state.now c.args.marks.now) c.args.agree c.lengths_fit-fits.ensures c.table_verdict.ensures c.in_err-table_verdict.was
 
 pub rules_kept-requires : goal.rules_kept-requires
-rules_kept-requires c = let a = c.args in let t = table a.edges.now a.reverse.now a.area.now in let m = memory a.head.now a.cells.now a.parent.now a.rank.now a.cell_mark.now a.slot_row.now a.slot_cell.now a.prev.now a.next.now a.row_slot.now a.row_mark.now in let f = lengths_are t m c.both_agree.ensures c.three_agree.ensures c.three_agree-2.ensures c.both_agree-2.ensures c.capacities_fit.ensures in rules_asks t m a.agree f c.table_verdict-checked.ensures (holds c.is_accepted.ensures (ap not c.if-not-is_accepted.false))
+rules_kept-requires c =
+    rules_asks (table_of c.args.table.now) (state_of c.args.state.now c.args.marks.now) c.args.agree c.lengths_fit-fits.ensures c.table_verdict.ensures c.in_ok-table_verdict.was
 
-pub returns-then-rules_kept : goal.returns-then-rules_kept
-returns-then-rules_kept c = let a = c.args in let t = table a.edges.now a.reverse.now a.area.now in let m = memory a.head.now a.cells.now a.parent.now a.rank.now a.cell_mark.now a.slot_row.now a.slot_cell.now a.prev.now a.next.now a.row_slot.now a.row_mark.now in let f = lengths_are t m c.both_agree.ensures c.three_agree.ensures c.three_agree-2.ensures c.both_agree-2.ensures c.capacities_fit.ensures in state_rules t m a.agree f c.table_verdict-checked.ensures (holds c.is_accepted.ensures (ap not c.if-not-is_accepted.false)) (sym c.if-rules_kept.true ∙ c.rules_kept.ensures)
+pub returns-then-not-rules_kept : goal.returns-then-not-rules_kept
+returns-then-not-rules_kept c =
+    state_rules (table_of c.args.table.now) (state_of c.args.state.now c.args.marks.now) c.args.agree c.lengths_fit-fits.ensures c.table_verdict.ensures c.in_ok-table_verdict.was
+    (sym (fails c.rules_kept.ensures (ap not c.if-not-rules_kept.true)))
 
 pub returns : goal.returns
-returns c = let a = c.args in let t = table a.edges.now a.reverse.now a.area.now in let m = memory a.head.now a.cells.now a.parent.now a.rank.now a.cell_mark.now a.slot_row.now a.slot_cell.now a.prev.now a.next.now a.row_slot.now a.row_mark.now in let f = lengths_are t m c.both_agree.ensures c.three_agree.ensures c.three_agree-2.ensures c.both_agree-2.ensures c.capacities_fit.ensures in state_rules t m a.agree f c.table_verdict-checked.ensures (holds c.is_accepted.ensures (ap not c.if-not-is_accepted.false)) (sym c.if-rules_kept.false ∙ c.rules_kept.ensures)
+returns c =
+    state_rules (table_of c.args.table.now) (state_of c.args.state.now c.args.marks.now) c.args.agree c.lengths_fit-fits.ensures c.table_verdict.ensures c.in_ok-table_verdict.was
+    (sym (holds c.rules_kept.ensures (ap not c.if-not-rules_kept.false)))

@@ -15,8 +15,8 @@ pub cancel_rows-requires : goal.cancel_rows-requires
 cancel_rows-requires c =
     (cancel_asks c.requires c.hold_cell-place.ensures c.place_outline.ensures, c.place_outline.ensures.flags)
 
-pub returns : goal.returns
-returns c =
+pub returns-clause-added : goal.returns-clause-added
+returns-clause-added c =
     added c.requires c.hold_cell-place.ensures c.place_outline.ensures
     (pool c.cancel_rows.new.parent c.cancel_rows.new.rank c.cancel_rows.new.slot_row c.cancel_rows.new.slot_cell c.cancel_rows.new.prev c.cancel_rows.new.next c.cancel_rows.new.row_slot)
     c.cancel_rows.ensures.0 c.cancel_rows.ensures.1

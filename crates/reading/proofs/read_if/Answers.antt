@@ -1,16 +1,18 @@
--- `reading::read_if` meets its contract. Refused with the verdict, or the rings are built.
+-- `reading::read_if` meets its contract. The refusal is handed on, or the rings are built.
 -- Assumes nothing.
-use mathlib.Core.Bool.{not}
-use mathlib.Core.Path.{ap}
-use Rattle.scope.specs.Lists.{at}
-use Rattle.scope.specs.Memory.{output}
-use Rattle.scope.proofs.Tests.{fails, holds}
-use Rattle.rings.specs.Views.{view_of}
+use mathlib.Core.Path.{◌≡◌}
+use Rattle.std.proofs.Common.{rules, Err}
+use Rattle.lent.specs.Lent.{table_of, state_of, output_of}
 use Rattle.reading.proofs.Readings.{read_refused, read_built}
 use Rattle.reading.proofs.read_if.Goals as goal
 
-pub returns-then-not-is_accepted : goal.returns-then-not-is_accepted
-returns-then-not-is_accepted c = let a = c.args in let w = view_of a.row_slot.now a.slot_row.now a.slot_cell.now a.next.now a.parent.now (at a.head.now 1) a.area.now in let o = output a.start.now a.size.now a.group.now a.ring_area.now a.ring_edges.now in read_refused a.verdict w o (fails c.is_accepted.ensures (ap not c.if-not-is_accepted.true)) c.refusal.ensures
+pub returns-in_err-verdict-clause-reads_if : goal.returns-in_err-verdict-clause-reads_if
+returns-in_err-verdict-clause-reads_if c =
+    let handed_on : c.from_residual.result ≡ Err c.in_err-verdict.field-0.0 = search rules in
+    let a = c.args in
+    rw handed_on (read_refused a.verdict (table_of a.table.now) (state_of a.state.now a.marks.now) (output_of a.output.now) c.in_err-verdict.was)
 
-pub returns : goal.returns
-returns c = let a = c.args in let w = view_of a.row_slot.now a.slot_row.now a.slot_cell.now a.next.now a.parent.now (at a.head.now 1) a.area.now in let o = output a.start.now a.size.now a.group.now a.ring_area.now a.ring_edges.now in read_built a.verdict w o (holds c.is_accepted.ensures (ap not c.if-not-is_accepted.false)) c.get32.ensures.0 c.build_rings.ensures
+pub returns-clause-reads_if : goal.returns-clause-reads_if
+returns-clause-reads_if c =
+    let a = c.args in
+    read_built a.verdict (table_of a.table.now) (state_of a.state.now a.marks.now) (output_of a.output.now) c.in_ok-verdict.was c.held.ensures.0 c.build_rings.ensures.built

@@ -1,30 +1,13 @@
 -- `ring_list::dissolve` meets its contract: the core's answer counts no more rings than there are records, and the records are those of what it wrote.
 -- Assumes nothing.
-use mathlib.Core.Path.{◌∙◌, ap}
-use lib.ListN.{length}
-use Rattle.scope.specs.Table.{Table, table}
-use Rattle.scope.specs.Memory.{Memory, Output, memory, output}
-use Rattle.scope.specs.Calls.{Reading}
-use Rattle.ring_list.specs.Listing.{dissolving_agreed}
-use Rattle.ring_list.proofs.Listings.{dissolve_fits, fills, dissolve_lists}
+use Rattle.ring_list.specs.Listing.{dissolving_rings}
+use Rattle.ring_list.proofs.Listings.{dissolve_fits, fills, lists}
 use Rattle.ring_list.proofs.dissolve.Goals as goal
 
-pub fill_rings-requires : goal.fill_rings-requires
-fill_rings-requires c =
-    let t : Table = table c.args.edges.now c.args.reverse.now c.args.area.now in
-    let m : Memory = memory c.args.head.now c.args.cells.now c.args.parent.now c.args.rank.now c.args.cell_mark.now c.args.slot_row.now c.args.slot_cell.now c.args.prev.now c.args.next.now c.args.row_slot.now c.args.row_mark.now in
-    let o : Output = output c.args.start.now c.args.size.now c.args.group.now c.args.ring_area.now c.args.ring_edges.now in
-    let rings = c.args.rings.now in
-    let done : Reading = record { answer = c.dissolve_agreed-answer.result; left = memory c.dissolve_agreed-answer.new.head c.dissolve_agreed-answer.new.cells c.dissolve_agreed-answer.new.parent c.dissolve_agreed-answer.new.rank c.dissolve_agreed-answer.new.cell_mark c.dissolve_agreed-answer.new.slot_row c.dissolve_agreed-answer.new.slot_cell c.dissolve_agreed-answer.new.prev c.dissolve_agreed-answer.new.next c.dissolve_agreed-answer.new.row_slot c.dissolve_agreed-answer.new.row_mark; out = output c.dissolve_agreed-answer.new.start c.dissolve_agreed-answer.new.size c.dissolve_agreed-answer.new.group c.dissolve_agreed-answer.new.ring_area c.dissolve_agreed-answer.new.ring_edges } in
-    let short = c.dissolve_agreed-answer.auto in
-    rw c.ring_count-count.ensures
-    (fills done (dissolving_agreed t m c.args.mode c.args.list.now o (length rings)) o rings c.dissolve_agreed-answer.ensures (dissolve_fits t m c.args.mode c.args.list.now o (length rings)) short.start short.size short.group short.ring_area)
+pub list_rings-requires : goal.list_rings-requires
+list_rings-requires c =
+    let done = c.dissolve_agreed-answer.ensures in fills c.args.rings.now done.dissolves (dissolve_fits _ _ c.args.mode c.args.list.now _ _) done.same_output
 
-pub returns : goal.returns
-returns c =
-    let t : Table = table c.args.edges.now c.args.reverse.now c.args.area.now in
-    let m : Memory = memory c.args.head.now c.args.cells.now c.args.parent.now c.args.rank.now c.args.cell_mark.now c.args.slot_row.now c.args.slot_cell.now c.args.prev.now c.args.next.now c.args.row_slot.now c.args.row_mark.now in
-    let o : Output = output c.args.start.now c.args.size.now c.args.group.now c.args.ring_area.now c.args.ring_edges.now in
-    let rings = c.args.rings.now in
-    let done : Reading = record { answer = c.dissolve_agreed-answer.result; left = memory c.dissolve_agreed-answer.new.head c.dissolve_agreed-answer.new.cells c.dissolve_agreed-answer.new.parent c.dissolve_agreed-answer.new.rank c.dissolve_agreed-answer.new.cell_mark c.dissolve_agreed-answer.new.slot_row c.dissolve_agreed-answer.new.slot_cell c.dissolve_agreed-answer.new.prev c.dissolve_agreed-answer.new.next c.dissolve_agreed-answer.new.row_slot c.dissolve_agreed-answer.new.row_mark; out = output c.dissolve_agreed-answer.new.start c.dissolve_agreed-answer.new.size c.dissolve_agreed-answer.new.group c.dissolve_agreed-answer.new.ring_area c.dissolve_agreed-answer.new.ring_edges } in
-    dissolve_lists t m c.args.mode c.args.list.now o rings done c.ring_count-count.result c.fill_rings.new.rings c.dissolve_agreed-answer.ensures c.ring_count-count.ensures c.fill_rings.ensures
+pub returns-clause-dissolves_rings : goal.returns-clause-dissolves_rings
+unfolding dissolving_rings
+returns-clause-dissolves_rings c = lists c.args.rings.now c.dissolve_agreed-answer.ensures.dissolves _ c.list_rings.ensures

@@ -1,19 +1,24 @@
 -- `solvent::dissolve` meets its contract. Refused by its list checks, or the work.
 -- Assumes nothing.
-use mathlib.Core.Bool.{not}
-use Rattle.scope.specs.Table.{table}
-use Rattle.scope.specs.Memory.{memory, output}
-use mathlib.Core.Path.{ap}
-use Rattle.scope.proofs.Tests.{fails, holds}
-use Rattle.admission.proofs.Fitting.{lengths_are}
+use mathlib.Core.Path.{◌≡◌}
+use Rattle.std.proofs.Common.{rules, Err}
+use Rattle.lent.specs.Lent.{table_of, memory_of, output_of}
+use Rattle.lent.proofs.Same.{state_is}
 use Rattle.solvent.proofs.Dissolves.{work_asks, dissolved, not_dissolved}
 use Rattle.solvent.proofs.dissolve.Goals as goal
 
-pub returns-then-not-is_accepted : goal.returns-then-not-is_accepted
-returns-then-not-is_accepted c = let a = c.args in let t = table a.edges.now a.reverse.now a.area.now in let m = memory a.head.now a.cells.now a.parent.now a.rank.now a.cell_mark.now a.slot_row.now a.slot_cell.now a.prev.now a.next.now a.row_slot.now a.row_mark.now in let o = output a.start.now a.size.now a.group.now a.ring_area.now a.ring_edges.now in let f = lengths_are t m c.both_agree.ensures c.three_agree.ensures c.three_agree-2.ensures c.both_agree-2.ensures c.capacities_fit.ensures in not_dissolved t m a.mode a.list.now o c.three_agree-agree.ensures f c.list_verdict-verdict.ensures (fails c.is_accepted.ensures (ap not c.if-not-is_accepted.true)) c.refusal.ensures
+pub returns-in_err-list_verdict-clause-dissolves : goal.returns-in_err-list_verdict-clause-dissolves
+returns-in_err-list_verdict-clause-dissolves c =
+    let a = c.args in
+    let handed_on : c.from_residual.result ≡ Err c.in_err-list_verdict.field-0.0 = search rules in
+    rw handed_on (not_dissolved (table_of a.table.now) (memory_of a.memory.now a.marks.now) a.mode a.list.now (output_of a.output.now) c.outputs_agree.ensures (rw (state_is a.marks.now c.as_state.ensures) at c.lengths_fit.ensures) c.places.ensures c.list_verdict.ensures c.in_err-list_verdict.was)
 
 pub work-requires : goal.work-requires
-work-requires c = let a = c.args in let t = table a.edges.now a.reverse.now a.area.now in let m = memory a.head.now a.cells.now a.parent.now a.rank.now a.cell_mark.now a.slot_row.now a.slot_cell.now a.prev.now a.next.now a.row_slot.now a.row_mark.now in let o = output a.start.now a.size.now a.group.now a.ring_area.now a.ring_edges.now in let f = lengths_are t m c.both_agree.ensures c.three_agree.ensures c.three_agree-2.ensures c.both_agree-2.ensures c.capacities_fit.ensures in work_asks t m a.mode a.list.now o c.three_agree-agree.ensures f c.list_verdict-verdict.ensures (holds c.is_accepted.ensures (ap not c.if-not-is_accepted.false))
+work-requires c =
+    let a = c.args in
+    work_asks (table_of a.table.now) (memory_of a.memory.now a.marks.now) a.mode a.list.now (output_of a.output.now) c.outputs_agree.ensures (rw (state_is a.marks.now c.as_state.ensures) at c.lengths_fit.ensures) c.places.ensures c.list_verdict.ensures c.in_ok-list_verdict.was
 
-pub returns : goal.returns
-returns c = let a = c.args in let t = table a.edges.now a.reverse.now a.area.now in let m = memory a.head.now a.cells.now a.parent.now a.rank.now a.cell_mark.now a.slot_row.now a.slot_cell.now a.prev.now a.next.now a.row_slot.now a.row_mark.now in let o = output a.start.now a.size.now a.group.now a.ring_area.now a.ring_edges.now in let f = lengths_are t m c.both_agree.ensures c.three_agree.ensures c.three_agree-2.ensures c.both_agree-2.ensures c.capacities_fit.ensures in dissolved t m a.mode a.list.now o c.three_agree-agree.ensures f c.list_verdict-verdict.ensures (holds c.is_accepted.ensures (ap not c.if-not-is_accepted.false)) c.work.ensures
+pub returns-clause-dissolves : goal.returns-clause-dissolves
+returns-clause-dissolves c =
+    let a = c.args in
+    dissolved (table_of a.table.now) (memory_of a.memory.now a.marks.now) a.mode a.list.now (output_of a.output.now) c.outputs_agree.ensures (rw (state_is a.marks.now c.as_state.ensures) at c.lengths_fit.ensures) c.places.ensures c.list_verdict.ensures c.in_ok-list_verdict.was c.work.ensures.works

@@ -1,18 +1,19 @@
 -- `standing::offer` meets its contract. Refused by a test before the outline, or the cell is taken.
 -- Assumes nothing.
-use mathlib.Core.Bool.{not}
-use Rattle.scope.specs.Table.{table}
-use Rattle.scope.specs.Memory.{memory}
-use mathlib.Core.Path.{ap}
-use Rattle.scope.proofs.Tests.{fails, holds}
+use mathlib.Core.Path.{◌≡◌}
+use Rattle.std.proofs.Common.{rules, Err}
+use Rattle.lent.specs.Lent.{table_of, memory_of}
+use Rattle.lent.proofs.Same.{state_is}
 use Rattle.standing.proofs.Offers.{offer_stops, offer_asks, offer_taken}
 use Rattle.standing.proofs.offer.Goals as goal
 
-pub returns-then-not-is_accepted : goal.returns-then-not-is_accepted
-returns-then-not-is_accepted c = let a = c.args in let t = table a.edges.now a.reverse.now a.area.now in let m = memory a.head.now a.cells.now a.parent.now a.rank.now a.cell_mark.now a.slot_row.now a.slot_cell.now a.prev.now a.next.now a.row_slot.now a.row_mark.now in offer_stops t m a.cell c.admit_verdict-verdict.ensures (fails c.is_accepted.ensures (ap not c.if-not-is_accepted.true))
+pub returns-in_err-admit_verdict-clause-offers : goal.returns-in_err-admit_verdict-clause-offers
+returns-in_err-admit_verdict-clause-offers c =
+    let handed_on : c.from_residual.result ≡ Err c.in_err-admit_verdict.field-0.0 = search rules in
+    rw handed_on (offer_stops (table_of c.args.table.now) (memory_of c.args.memory.now c.args.marks.now) c.args.cell (rw (state_is c.args.marks.now c.as_state.ensures) at c.admit_verdict.ensures) c.in_err-admit_verdict.was)
 
 pub take_all-requires : goal.take_all-requires
-take_all-requires c = let a = c.args in let t = table a.edges.now a.reverse.now a.area.now in let m = memory a.head.now a.cells.now a.parent.now a.rank.now a.cell_mark.now a.slot_row.now a.slot_cell.now a.prev.now a.next.now a.row_slot.now a.row_mark.now in offer_asks t m a.cell c.admit_verdict-verdict.ensures (holds c.is_accepted.ensures (ap not c.if-not-is_accepted.false))
+take_all-requires c = offer_asks (table_of c.args.table.now) (memory_of c.args.memory.now c.args.marks.now) c.args.cell (rw (state_is c.args.marks.now c.as_state.ensures) at c.admit_verdict.ensures) c.in_ok-admit_verdict.was
 
-pub returns : goal.returns
-returns c = let a = c.args in let t = table a.edges.now a.reverse.now a.area.now in let m = memory a.head.now a.cells.now a.parent.now a.rank.now a.cell_mark.now a.slot_row.now a.slot_cell.now a.prev.now a.next.now a.row_slot.now a.row_mark.now in offer_taken t m a.cell c.take_all.ensures
+pub returns-clause-offers : goal.returns-clause-offers
+returns-clause-offers c = offer_taken (table_of c.args.table.now) (memory_of c.args.memory.now c.args.marks.now) c.args.cell c.take_all.ensures.takes_all

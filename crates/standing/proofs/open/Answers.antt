@@ -1,17 +1,19 @@
 -- `standing::open` meets its contract. The pool is opened where both tests accept.
 -- Assumes nothing.
-use Rattle.scope.specs.Table.{table}
-use Rattle.scope.specs.Memory.{memory}
-use mathlib.Core.Path.{sym, ◌∙◌}
-use Rattle.admission.proofs.Fitting.{lengths_are}
+use mathlib.Core.Path.{◌≡◌}
+use Rattle.std.proofs.Common.{rules, Err}
+use Rattle.lent.specs.Lent.{table_of, memory_of}
+use Rattle.lent.proofs.Same.{state_is}
 use Rattle.standing.proofs.Opening.{head_two, opens, opens_not}
 use Rattle.standing.proofs.open.Goals as goal
 
+pub returns-in_err-open_verdict-clause-opens : goal.returns-in_err-open_verdict-clause-opens
+returns-in_err-open_verdict-clause-opens c =
+    let handed_on : c.from_residual.result ≡ Err c.in_err-open_verdict.field-0.0 = search rules in
+    rw handed_on (opens_not (table_of c.args.table.now) (memory_of c.args.memory.now c.args.marks.now) c.args.mode (rw (state_is c.args.marks.now c.as_state.ensures) at c.lengths_fit.ensures) c.open_verdict.ensures c.in_err-open_verdict.was)
+
 pub open-requires : goal.open-requires
-open-requires c = let a = c.args in let t = table a.edges.now a.reverse.now a.area.now in let m = memory a.head.now a.cells.now a.parent.now a.rank.now a.cell_mark.now a.slot_row.now a.slot_cell.now a.prev.now a.next.now a.row_slot.now a.row_mark.now in let f = lengths_are t m c.both_agree.ensures c.three_agree.ensures c.three_agree-2.ensures c.both_agree-2.ensures c.capacities_fit.ensures in head_two t m a.mode f c.open_verdict-verdict.ensures (sym c.is_accepted.ensures ∙ c.if-is_accepted.true)
+open-requires c = head_two (table_of c.args.table.now) (memory_of c.args.memory.now c.args.marks.now) c.args.mode (rw (state_is c.args.marks.now c.as_state.ensures) at c.lengths_fit.ensures) c.open_verdict.ensures c.in_ok-open_verdict.was
 
-pub returns-then-is_accepted : goal.returns-then-is_accepted
-returns-then-is_accepted c = let a = c.args in let t = table a.edges.now a.reverse.now a.area.now in let m = memory a.head.now a.cells.now a.parent.now a.rank.now a.cell_mark.now a.slot_row.now a.slot_cell.now a.prev.now a.next.now a.row_slot.now a.row_mark.now in let f = lengths_are t m c.both_agree.ensures c.three_agree.ensures c.three_agree-2.ensures c.both_agree-2.ensures c.capacities_fit.ensures in opens t m a.mode f c.open_verdict-verdict.ensures (sym c.is_accepted.ensures ∙ c.if-is_accepted.true) c.«open».ensures
-
-pub returns-else-is_accepted : goal.returns-else-is_accepted
-returns-else-is_accepted c = let a = c.args in let t = table a.edges.now a.reverse.now a.area.now in let m = memory a.head.now a.cells.now a.parent.now a.rank.now a.cell_mark.now a.slot_row.now a.slot_cell.now a.prev.now a.next.now a.row_slot.now a.row_mark.now in let f = lengths_are t m c.both_agree.ensures c.three_agree.ensures c.three_agree-2.ensures c.both_agree-2.ensures c.capacities_fit.ensures in opens_not t m a.mode f c.open_verdict-verdict.ensures (sym c.is_accepted.ensures ∙ c.if-is_accepted.false)
+pub returns-clause-opens : goal.returns-clause-opens
+returns-clause-opens c = opens (table_of c.args.table.now) (memory_of c.args.memory.now c.args.marks.now) c.args.mode (rw (state_is c.args.marks.now c.as_state.ensures) at c.lengths_fit.ensures) c.open_verdict.ensures c.in_ok-open_verdict.was c.«open».ensures.opened

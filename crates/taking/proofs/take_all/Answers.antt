@@ -15,9 +15,9 @@ pub take_list-requires : goal.take_list-requires
 take_list-requires c =
     let a = c.args in
     let few = sym c.few_suffice.ensures ∙ c.if-few_suffice.true in
-    record { asks = c.requires; room = room_few a.edges.now a.list.now few (omega (arith, length-replicate {A = ℕ} 4096 0)) }
+    record { asks = c.requires; room = room_few a.table.now.edges.now a.list.now few (omega (arith, length-replicate {A = ℕ} 4096 0)) }
 
 pub take_list-requires-2 : goal.take_list-requires-2
 take_list-requires-2 c =
     let p = c.requires in
-    record { asks = p; room = λ i h. room_all (omega (arith, (sound_table p.sound).most, c.blank_rows.ensures)) }
+    record { asks = p; room = λ i h. room_all (omega (arith, (sound_table p.sound).most, c.blank-2.ensures)) }

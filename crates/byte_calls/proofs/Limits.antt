@@ -10,7 +10,8 @@ use mathlib.Core.List.{List, []}
 use lib.Dec.{eqb, leb}
 use lib.ListN.{length}
 use borrow.Author.Tests.{eqb-true, leb-true}
-use Rattle.scope.specs.declared.Verdict.TheVariants.{Refused}
+use Rattle.std.specs.Prelude.{Err}
+use Rattle.scope.specs.declared.Refusal.TheVariants.{BadLengths}
 use Rattle.scope.specs.Table.{row_count}
 use Rattle.scope.specs.Calls.{dissolving}
 use Rattle.scope.specs.Bytes.{Left, refused, result_of, rows_in, table_in, cells_in, state_in, state_size, cleared, cleared_output, showing, calling, table_fits, list_fits, room_fits, zone_dissolving, zone_standing}
@@ -51,7 +52,7 @@ module _ (tableBytes cellBytes : List ℕ) (slots places : ℕ) where
         p ∙ ap (λ (n : ℕ). showing (dissolving (table_in tableBytes) (cleared n slots places) mode (cells_in cellBytes) (cleared_output n)) [] out) (sym (table_rows tableBytes))
         ∙ ap (λ (b : Bool). cond b (showing (dissolving (table_in tableBytes) (cleared (row_count (table_in tableBytes)) slots places) mode (cells_in cellBytes) (cleared_output (row_count (table_in tableBytes)))) [] out) (refused [] out)) (sym e)
 
-    pub dissolve_refused : {result : ℕ} → dissolve_fits ≡ false → result ≡ result_of (Refused 10 0)
+    pub dissolve_refused : {result : ℕ} → dissolve_fits ≡ false → result ≡ result_of (Err BadLengths)
         → record { result = result; state = []; out = out } ≡ zone_dissolving tableBytes cellBytes out mode slots places
     unfolding zone_dissolving
     dissolve_refused e p = rw (e, p)
@@ -77,7 +78,7 @@ module _ (tableBytes state : List ℕ) (slots places : ℕ) where
     unfolding zone_standing
     stands e p = p ∙ ap (λ (b : Bool). cond b (calling (table_in tableBytes) (state_in (rows_in tableBytes) slots places state) state out call value) (refused state out)) (sym e)
 
-    pub standing_refused : {result : ℕ} → standing_fits ≡ false → result ≡ result_of (Refused 10 0)
+    pub standing_refused : {result : ℕ} → standing_fits ≡ false → result ≡ result_of (Err BadLengths)
         → record { result = result; state = state; out = out } ≡ zone_standing tableBytes state out slots places call value
     unfolding zone_standing
     standing_refused e p = rw (e, p)

@@ -7,11 +7,11 @@ ghost use Rattle.byte_limits.specs.Within.{StandingWithin};
 ghost use Rattle.byte_calls.specs.Promises.{DissolvesBytes, CallsBytes};
 
 use answer_numbers::result;
-use byte_change::change_within;
+use byte_change::{Change, change_within};
 use byte_dissolve::dissolve_within;
 use byte_limits::fits::{dissolve_fits, standing_fits};
 use byte_read::read_within;
-use scope::Verdict;
+use scope::Refusal;
 
 // Dissolves a list of cells.
 pub fn dissolve(
@@ -25,7 +25,7 @@ pub fn dissolve(
     ensures { DissolvesBytes table.now cells.now out.old mode slots places result out.new }
 {
     if !dissolve_fits(table, cells, slots, places) {
-        return result(Verdict::Refused(10, 0));
+        return result(Err(Refusal::BadLengths));
     }
     dissolve_within(
         table,
@@ -50,13 +50,12 @@ fn call_within(
     requires { StandingWithin table.now state.old slots places }
     ensures { record { result = result; state = state.new; out = out.new } ≡ calling (table_in table.now) (state_in (rows_in table.now) slots places state.old) state.old out.old call value }
 {
-    if call < 2 {
-        return change_within(table, state, slots, places, call, value);
+    match call {
+        0 => change_within(table, state, slots, places, Change::Open(value as usize)),
+        1 => change_within(table, state, slots, places, Change::Offer(value)),
+        2 => read_within(table, state, out, slots, places),
+        _ => result(Err(Refusal::BadLengths)),
     }
-    if call == 2 {
-        return read_within(table, state, out, slots, places);
-    }
-    result(Verdict::Refused(10, 0))
 }
 
 // Opens (call 0), offers to (1) or reads out (2) a standing state; `value` is the mode or the cell.
@@ -72,7 +71,7 @@ pub fn standing(
     ensures { CallsBytes table.now state.old out.old slots places call value result state.new out.new }
 {
     if !standing_fits(table, state, slots, places) {
-        return result(Verdict::Refused(10, 0));
+        return result(Err(Refusal::BadLengths));
     }
     call_within(
         table,

@@ -1,9 +1,11 @@
--- The calls that change a state: call 0 opens with mode `value`, 1 offers the cell `value`.
+-- The calls that change a state: it is opened in a mode, or offered a cell.
 -- Assumes nothing.
-use Rattle.std.specs.Prelude.{ℕ, cond, eqb}
 use Rattle.scope.specs.Table.{Table}
 use Rattle.scope.specs.Memory.{Memory}
 use Rattle.scope.specs.Calls.{Outcome, opening, offering}
+use Rattle.byte_change.specs.declared.Change.{Change}
+use Rattle.byte_change.specs.declared.Change.TheVariants.{Open, Offer}
 
-unfoldable pub changing : Table → Memory → ℕ → ℕ → Outcome
-changing t m call value = cond (eqb call 0) (opening t m value) (offering t m value)
+unfoldable pub changing : Table → Memory → Change → Outcome
+changing t m (Open mode) = opening t m mode
+changing t m (Offer cell) = offering t m cell

@@ -1,4 +1,4 @@
 -- Laws that the proofs of this crate cite.
 pub mod Outputs
 pub mod Rooms
-pub mod Arrays
+pub mod Determined

@@ -1,3 +1,3 @@
 -- The limits of the calls on bytes.
-pub mod Columns
+pub mod Arrays
 pub mod Within

@@ -1,7 +1,7 @@
 -- The calls at full size, as numbers: a result in place of the answer, and a summary of what is read out.
 -- Assumes nothing.
-use Rattle.std.specs.Prelude.{ℕ, ◌≡◌, cond, List, eqb, length}
-use Rattle.scope.specs.declared.Verdict.TheVariants.{Refused}
+use Rattle.std.specs.Prelude.{ℕ, ◌≡◌, cond, List, eqb, length, Err}
+use Rattle.scope.specs.declared.Refusal.TheVariants.{BadLengths}
 use Rattle.scope.specs.Answers.{verdict_of, if_accepted}
 use Rattle.scope.specs.Table.{Table}
 use Rattle.scope.specs.Memory.{Memory, Output}
@@ -38,7 +38,7 @@ told r summary = record {
 -- 10 first unless the summary has its four numbers.
 unfoldable pub four_numbers : List ℕ → Memory → Output → Told → Told
 four_numbers summary m o done =
-    cond (eqb (length summary) 4) done (record { result = result_of (Refused 10 0); left = m; out = o; summary = summary })
+    cond (eqb (length summary) 4) done (record { result = result_of (Err BadLengths); left = m; out = o; summary = summary })
 
 unfoldable pub reading_told : Table → Memory → Output → List ℕ → Told
 reading_told t m o summary = four_numbers summary m o (told (reading_out t m o) summary)

@@ -1,13 +1,16 @@
-// The four calls at full size, on slices of numbers as they are in the core, answered by numbers. host_c hands them on to Rust and C.
+// The four calls at full size, on slices of numbers, answered by numbers. host_c hands them on to Rust and C.
+// The slices stand apart, as its C functions take them.
 ghost use Rattle.scope.specs.Table.{table};
 ghost use Rattle.scope.specs.Memory.{memory, output};
 ghost use Rattle.host.specs.Full.{CallsOpen, CallsOffer, TellsReadOut, TellsDissolve};
 
 use answer_numbers::result;
-use scope::Verdict;
+use lent::{Marks, Memory, Output, State, Table};
+use scope::Refusal;
 use solvent::{dissolve, offer, open, read_out};
 use telling::tell;
 
+#[tactic(auto, unfolding(crate::specs::Full::called))]
 pub fn zo_open(
     edges: &[u64],
     reverse: &[u32],
@@ -28,12 +31,30 @@ pub fn zo_open(
     ensures { CallsOpen (table edges.now reverse.now area.now) (memory head.old cells.old parent.old rank.old cell_mark.old slot_row.old slot_cell.old prev.old next.old row_slot.old row_mark.old) mode
         result (memory head.new cells.new parent.new rank.new cell_mark.new slot_row.new slot_cell.new prev.new next.new row_slot.new row_mark.new) }
 {
-    result(open(
-        edges, reverse, area, head, cells, parent, rank, cell_mark, slot_row, slot_cell, prev,
-        next, row_slot, row_mark, mode,
-    ))
+    let table = Table {
+        edges,
+        reverse,
+        area,
+    };
+    let mut memory = Memory {
+        head,
+        cells,
+        parent,
+        rank,
+        slot_row,
+        slot_cell,
+        prev,
+        next,
+        row_slot,
+    };
+    let mut marks = Marks {
+        cell_mark,
+        row_mark,
+    };
+    result(open(&table, &mut memory, &mut marks, mode))
 }
 
+#[tactic(auto, unfolding(crate::specs::Full::called))]
 pub fn zo_offer(
     edges: &[u64],
     reverse: &[u32],
@@ -54,12 +75,30 @@ pub fn zo_offer(
     ensures { CallsOffer (table edges.now reverse.now area.now) (memory head.old cells.old parent.old rank.old cell_mark.old slot_row.old slot_cell.old prev.old next.old row_slot.old row_mark.old) cell
         result (memory head.new cells.new parent.new rank.new cell_mark.new slot_row.new slot_cell.new prev.new next.new row_slot.new row_mark.new) }
 {
-    result(offer(
-        edges, reverse, area, head, cells, parent, rank, cell_mark, slot_row, slot_cell, prev,
-        next, row_slot, row_mark, cell,
-    ))
+    let table = Table {
+        edges,
+        reverse,
+        area,
+    };
+    let mut memory = Memory {
+        head,
+        cells,
+        parent,
+        rank,
+        slot_row,
+        slot_cell,
+        prev,
+        next,
+        row_slot,
+    };
+    let mut marks = Marks {
+        cell_mark,
+        row_mark,
+    };
+    result(offer(&table, &mut memory, &mut marks, cell))
 }
 
+#[tactic(auto, unfolding(crate::specs::Full::reading_told, crate::specs::Full::four_numbers, crate::specs::Full::told))]
 pub fn zo_read_out(
     edges: &[u64],
     reverse: &[u32],
@@ -86,15 +125,40 @@ pub fn zo_read_out(
         result (memory head.now cells.now parent.now rank.now cell_mark.new slot_row.now slot_cell.now prev.now next.now row_slot.now row_mark.new) (output start.new size.new group.new ring_area.new ring_edges.new) summary.new }
 {
     if summary.len() != 4 {
-        return result(Verdict::Refused(10, 0));
+        return result(Err(Refusal::BadLengths));
     }
-    let answer = read_out(
-        edges, reverse, area, head, cells, parent, rank, cell_mark, slot_row, slot_cell, prev,
-        next, row_slot, row_mark, start, size, group, ring_area, ring_edges,
-    );
+    let table = Table {
+        edges,
+        reverse,
+        area,
+    };
+    let state = State {
+        head,
+        cells,
+        parent,
+        rank,
+        slot_row,
+        slot_cell,
+        prev,
+        next,
+        row_slot,
+    };
+    let mut marks = Marks {
+        cell_mark,
+        row_mark,
+    };
+    let mut output = Output {
+        start,
+        size,
+        group,
+        area: ring_area,
+        edges: ring_edges,
+    };
+    let answer = read_out(&table, &state, &mut marks, &mut output);
     tell(summary, answer)
 }
 
+#[tactic(auto, unfolding(crate::specs::Full::dissolving_told, crate::specs::Full::four_numbers, crate::specs::Full::told))]
 pub fn zo_dissolve(
     edges: &[u64],
     reverse: &[u32],
@@ -123,11 +187,35 @@ pub fn zo_dissolve(
         result (memory head.new cells.new parent.new rank.new cell_mark.new slot_row.new slot_cell.new prev.new next.new row_slot.new row_mark.new) (output start.new size.new group.new ring_area.new ring_edges.new) summary.new }
 {
     if summary.len() != 4 {
-        return result(Verdict::Refused(10, 0));
+        return result(Err(Refusal::BadLengths));
     }
-    let answer = dissolve(
-        edges, reverse, area, head, cells, parent, rank, cell_mark, slot_row, slot_cell, prev,
-        next, row_slot, row_mark, list, start, size, group, ring_area, ring_edges, mode,
-    );
+    let table = Table {
+        edges,
+        reverse,
+        area,
+    };
+    let mut memory = Memory {
+        head,
+        cells,
+        parent,
+        rank,
+        slot_row,
+        slot_cell,
+        prev,
+        next,
+        row_slot,
+    };
+    let mut marks = Marks {
+        cell_mark,
+        row_mark,
+    };
+    let mut output = Output {
+        start,
+        size,
+        group,
+        area: ring_area,
+        edges: ring_edges,
+    };
+    let answer = dissolve(&table, &mut memory, &mut marks, list, &mut output, mode);
     tell(summary, answer)
 }

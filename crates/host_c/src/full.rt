@@ -1,4 +1,5 @@
-// The four calls at full size, on slices of numbers as they are in the core. include/zone_outliner.h documents them for C.
+// The four calls at full size, on slices of numbers. include/zone_outliner.h documents them for C.
+// The slices stand apart and the promises are host's again: C names stand in a static library alone, and no crate can call those.
 ghost use Rattle.scope.specs.Table.{table};
 ghost use Rattle.scope.specs.Memory.{memory, output};
 ghost use Rattle.host.specs.Full.{CallsOpen, CallsOffer, TellsReadOut, TellsDissolve};

@@ -1,33 +1,29 @@
 // What read out and dissolve answer at full size, told as numbers: the result, and a summary of four numbers.
 #![tactic(auto)]
 
-ghost use Rattle.std.specs.Prelude.{◌≡◌, ◌≤◌, length};
-ghost use Rattle.scope.specs.Answers.{refusal_of, verdict_of};
+ghost use Rattle.std.specs.Prelude.{◌≡◌, length};
 ghost use Rattle.telling.specs.Summary.{summary_of, Tells};
 
 use answer_numbers::{result, summarise, verdict_of};
-use answers::is_accepted;
-use scope::ReadOut;
+use scope::{ReadOut, Refusal};
 
 // The four numbers of an answer.
-fn store_summary(summary: &mut [u64], answer: ReadOut)
+#[tactic(auto, using(crate::proofs::Summaries::summary_is))]
+fn store_summary(summary: &mut [u64], answer: Result<ReadOut, Refusal>)
     requires { length summary.old ≡ 4 }
     ensures { summary.new ≡ summary_of answer }
 {
     let s = summarise(answer);
-    summary[0] = s.kind;
-    summary[1] = s.polygons;
-    summary[2] = s.rings;
-    summary[3] = s.area;
+    summary.copy_from_slice(&[s.kind, s.polygons, s.rings, s.area]);
 }
 
 // The result, with the summary of an answer that is no refusal.
-pub fn tell(summary: &mut [u64], answer: ReadOut) -> u64
-    requires { (length summary.old ≡ 4) × (refusal_of (verdict_of answer) ≤ 10) }
+pub fn tell(summary: &mut [u64], answer: Result<ReadOut, Refusal>) -> u64
+    requires { length summary.old ≡ 4 }
     ensures { Tells answer summary.old result summary.new }
 {
     let verdict = verdict_of(answer);
-    if is_accepted(verdict) {
+    if verdict.is_ok() {
         store_summary(summary, answer);
     }
     result(verdict)

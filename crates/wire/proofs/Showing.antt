@@ -2,11 +2,11 @@
 --     total_next, total_upto     one more, and no more than all
 --     read_length                24 bytes, 20 for each ring and 4 for each edge
 --     reading_written            the summary, the rings and the edges written one behind the other are a reading's bytes
---     shown_is, shown_fits, shown_low     the verdict with the test of the output's length
+--     shown_is, shown_fits     the verdict with the test of the output's length
 -- Assumes nothing.
 use Prim.Native.Nat.{ℕ, zero, suc, ◌+◌, ◌-◌, ◌*◌, ◌≤◌, ◌<◌}
 use mathlib.Core.Path.{◌≡◌, refl, sym, ◌∙◌, ap, ap₂, subst}
-use mathlib.Core.Bool.{Bool, true, false}
+use mathlib.Core.Bool.{true}
 use mathlib.Core.List.{List, ◌++◌}
 use native.Mathlib.Numerals.{add-one}
 use native.Mathlib.Omega.{arith}
@@ -14,16 +14,17 @@ use lib.Dec.{leb}
 use lib.ListN.{length, take, drop, length-append}
 use borrow.Author.Tests.{leb-true}
 use lib.Seq.{sets, sets-eq, length-take-le, get_or-take}
-use Rattle.scope.specs.declared.ReadOut.{ReadOut}
-use Rattle.scope.specs.declared.Verdict.{Verdict}
-use Rattle.scope.specs.declared.Verdict.TheVariants.{Accepted, Refused}
+use Rattle.scope.specs.declared.Refusal.TheVariants.{BadLengths}
 use Rattle.scope.specs.Lists.{at, total}
-use Rattle.scope.specs.Answers.{refusal_of, kind_of, verdict_of, polygons_of, rings_of, is_accepted, if_accepted, require, ◌▷◌}
+use Rattle.scope.specs.Answers.{Answer, Verdict, kind_of, verdict_of, polygons_of, rings_of, is_accepted, require, ◌▷◌}
 use Rattle.scope.specs.Memory.{Output}
 use Rattle.scope.specs.Calls.{over}
 use Rattle.scope.specs.Bytes.{bytes32, joined, all32, summary_record, ring_bytes, edge_bytes, edge_count, area_bits, read_bytes, shown_verdict}
 use Rattle.scope.proofs.Verdicts.{accepted, second_accepts, require_holds}
-use Rattle.codec.proofs.Writing.{joined_length, behind}
+use Rattle.answer_numbers.specs.declared.Summary.{Summary}
+use Rattle.answer_numbers.specs.Sums.{Sums}
+use Rattle.scope.proofs.RoundTrip.{joined_length}
+use Rattle.codec.proofs.Writing.{behind}
 use Rattle.wire.specs.Room.{ReadingRoom}
 
 module _ (f : ℕ → ℕ) where
@@ -58,7 +59,7 @@ sets_over x b h = sets-eq x b 0 (omega arith) ∙ ap (λ (k : ℕ). x ++ drop k 
 
 -- ---- a whole reading
 
-module _ (r : ReadOut) (o : Output) where
+module _ (r : Answer) (o : Output) where
   pub read_length : length (read_bytes r o) ≡ 24 + 20 * rings_of r + 4 * edge_count r o
   unfolding read_bytes
   read_length =
@@ -68,46 +69,28 @@ module _ (r : ReadOut) (o : Output) where
       let c = joined_length (ring_bytes o) 20 (λ i. refl) (rings_of r) in let d = joined_length (edge_bytes o) 4 (λ i. refl) (edge_count r o) in
       omega arith
 
-module _ {size : ℕ} {r : ReadOut} {o : Output} {rings edges : ℕ} (R : ReadingRoom size r o rings edges) where
-  pub reading_written : (out : List ℕ) {out₁ out₂ out₃ : List ℕ} {kind polygons count bits : ℕ} → length out ≡ size
-      → (kind ≡ kind_of r) × (polygons ≡ polygons_of r) × (count ≡ rings_of r) × (bits ≡ area_bits r)
-      → out₁ ≡ sets out 0 (summary_record kind polygons count edges bits) → out₂ ≡ sets out₁ 24 (joined (ring_bytes o) rings)
-      → out₃ ≡ sets out₂ (24 + 20 * rings) (all32 (take edges o.edges)) → out₃ ≡ over (read_bytes r o) out
+module _ {size : ℕ} {r : Answer} {o : Output} {edges : ℕ} (R : ReadingRoom size r o edges) where
+  pub reading_written : (out : List ℕ) {out₁ out₂ out₃ : List ℕ} {s : Summary} → length out ≡ size → Sums r s
+      → out₁ ≡ sets out 0 (summary_record s.kind s.polygons s.rings edges s.area) → out₂ ≡ sets out₁ 24 (joined (ring_bytes o) s.rings)
+      → out₃ ≡ sets out₂ (24 + 20 * s.rings) (all32 (take edges o.edges)) → out₃ ≡ over (read_bytes r o) out
   unfolding read_bytes
-  reading_written out {out₁} {out₂} {out₃} {kind} {polygons} {count} {bits} len e e₁ e₂ e₃ =
-      let s = summary_record (kind_of r) (polygons_of r) (rings_of r) (edge_count r o) (area_bits r) in
-      let ss = summary_record kind polygons count edges bits in
-      let rs = joined (ring_bytes o) rings in
+  reading_written out {out₁} {out₂} {out₃} {s} len e e₁ e₂ e₃ =
+      let ss = summary_record s.kind s.polygons s.rings edges s.area in
+      let rs = joined (ring_bytes o) s.rings in
       let es = all32 (take edges o.edges) in
-      let n = joined_length (ring_bytes o) 20 (λ i. refl) rings in let l = length-append ss rs in
+      let n = joined_length (ring_bytes o) 20 (λ i. refl) s.rings in let l = length-append ss rs in
       let all = behind out (ss ++ rs) es 0 (behind out ss rs 0 e₁ e₂ refl) e₃ (omega arith) in
-      let same : ss ++ rs ++ es ≡ read_bytes r o = rw (e.0, e.1, e.2, e.3, front_bytes o.edges edges R.rows, R.rings_are, R.edges_are) in
-      let long = read_length r o in let room = R.room in let ri = R.rings_are in let ei = R.edges_are in
+      let same : ss ++ rs ++ es ≡ read_bytes r o = rw (e.0, e.1, e.2, e.3, front_bytes o.edges edges R.rows, R.edges_are) in
+      let long = read_length r o in let room = R.room in let ei = R.edges_are in
       all ∙ ap (sets out 0) same ∙ sets_over (read_bytes r o) out (omega arith)
 
 -- ---- the verdict
 
-module _ (r : ReadOut) (o : Output) (out : List ℕ) {rings edges : ℕ} (ri : rings ≡ rings_of r) (ei : edges ≡ edge_count r o) {v w : Verdict}
-    (vi : v ≡ verdict_of r) (wi : w ≡ (v ▷ require (leb (24 + 20 * rings + 4 * edges) (length out)) 10 0)) where
+module _ (r : Answer) (o : Output) (out : List ℕ) {rings edges : ℕ} (ri : rings ≡ rings_of r) (ei : edges ≡ edge_count r o) {v w : Verdict}
+    (vi : v ≡ verdict_of r) (wi : w ≡ (v ▷ require (leb (24 + 20 * rings + 4 * edges) (length out)) BadLengths)) where
   pub shown_is : w ≡ shown_verdict r o out
-  shown_is = wi ∙ ap₂ (λ (x : Verdict) (n : ℕ). x ▷ require (leb n (length out)) 10 0) vi
+  shown_is = wi ∙ ap₂ (λ (x : Verdict) (n : ℕ). x ▷ require (leb n (length out)) BadLengths) vi
       (ap₂ (λ (a b : ℕ). 24 + 20 * a + 4 * b) ri ei ∙ sym (read_length r o))
 
   pub shown_fits : is_accepted w ≡ true → 24 + 20 * rings + 4 * edges ≤ length out
-  shown_fits e = leb-true _ _ (require_holds (leb (24 + 20 * rings + 4 * edges) (length out)) 10 0 (second_accepts v _ (sym wi ∙ accepted w e)))
-
-  pub shown_low : refusal_of (verdict_of r) ≤ 10 → refusal_of w ≤ 10
-  unfolding refusal_of
-  shown_low h = subst (λ (x : Verdict). refusal_of x ≤ 10) (sym wi) (go v (leb (24 + 20 * rings + 4 * edges) (length out)) (subst (λ (x : Verdict). refusal_of x ≤ 10) (sym vi) h))
-    where
-      go : (v : Verdict) (b : Bool) → refusal_of v ≤ 10 → refusal_of (v ▷ require b 10 0) ≤ 10
-      go Accepted true k = omega arith
-      go Accepted false k = omega arith
-      go (Refused number index) b k = k
-
-pub if_accepted_lem : {A : Type 0} (v : Verdict) (x y : A) → is_accepted v ≡ true → if_accepted v x y ≡ x
-if_accepted_lem v x y e = ap (λ (u : Verdict). if_accepted u x y) (accepted v e)
-
-pub if_refused : {A : Type 0} (v : Verdict) (x y : A) → is_accepted v ≡ false → if_accepted v x y ≡ y
-if_refused Accepted x y e = let z : ◌≡◌ {A = ℕ} 0 1 = cc in absurd (omega arith)
-if_refused (Refused number index) x y e = refl
+  shown_fits e = leb-true _ _ (require_holds (leb (24 + 20 * rings + 4 * edges) (length out)) BadLengths (second_accepts v _ (sym wi ∙ accepted w e)))

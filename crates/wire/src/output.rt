@@ -1,122 +1,97 @@
 // What read out and dissolve write into the bytes of an output: a summary, the rings, the edges.
-ghost use Rattle.std.specs.Prelude.{◌≡◌, [], ◌+◌, ◌*◌, ◌≤◌, length};
+ghost use Rattle.std.specs.Prelude.{◌≡◌, ◌+◌, ◌<◌, ◌≤◌, length};
 ghost use Rattle.std.proofs.lemmas.List.Edits.{sets};
 ghost use Rattle.scope.specs.Lists.{at, total};
-ghost use Rattle.scope.specs.Memory.{output};
 ghost use Rattle.scope.specs.Calls.{over};
-ghost use Rattle.scope.specs.Bytes.{summary_record, ring_record, ring_bytes, read_bytes, result_of, shown_verdict, shown_out, joined};
-ghost use Rattle.wire.specs.Room.{CountRoom, RingsRoom, ReadingRoom, ShownRoom};
+ghost use Rattle.scope.specs.Bytes.{summary_record, ring_bytes, read_bytes, result_of, shown_verdict, shown_out, joined};
+ghost use Rattle.lent.specs.Lent.{drawn_of};
+ghost use Rattle.wire.specs.Room.{RingsIn, CountRoom, RingsRoom, ReadingRoom, ShownRoom};
 
-use answer_numbers::{result, summarise, then_fits, verdict_of};
-use answers::is_accepted;
-use codec::{bits_of, encode_u32s, write_u32, write_u64};
-use scope::ReadOut;
-use slices::get32;
+use answer_numbers::{Summary, result, summarise, then_fits, verdict_of};
+use codec::{ToBytes, bits_of, encode, write_u32};
+use lent::Drawn;
+use scope::{ReadOut, Refusal};
 
 // As many edges as the first rings are long.
-fn edge_count(size: &[u32], rings: usize) -> usize
-    requires { CountRoom size.now rings }
-    ensures { result ≡ total (at size.now) rings }
+fn edge_count(output: &Drawn<'_>, rings: usize) -> usize
+    requires { CountRoom (drawn_of output.now) rings }
+    ensures { result ≡ total (at output.now.size.now) rings }
 {
     let mut edges = 0;
-    let mut i = 0;
-    while i < rings {
-        edges += get32(size, i);
-        i += 1;
+    for size in &output.size[..rings] {
+        edges += *size as usize;
     }
     edges
 }
 
-fn write_summary(out: &mut [u8], kind: u64, polygons: u64, rings: u64, edges: u64, area: u64)
+fn write_summary(out: &mut [u8], summary: Summary, edges: usize)
     requires { 24 ≤ length out.old }
-    ensures { out.new ≡ sets out.old 0 (summary_record kind polygons rings edges area) }
+    ensures { out.new ≡ sets out.old 0 (summary_record summary.kind summary.polygons summary.rings edges summary.area) }
 {
-    write_u32(out, 0, kind);
-    write_u32(out, 4, polygons);
-    write_u32(out, 8, rings);
-    write_u32(out, 12, edges);
-    write_u64(out, 16, area);
+    write_u32(out, 0, summary.kind);
+    write_u32(out, 4, summary.polygons);
+    write_u32(out, 8, summary.rings);
+    write_u32(out, 12, edges as u64);
+    summary.area.write(out, 16);
 }
 
-fn write_ring(out: &mut [u8], at: usize, start: usize, size: usize, group: usize, area: u64)
-    requires { at + 20 ≤ length out.old }
-    ensures { out.new ≡ sets out.old at (ring_record start size group area) }
+// The record of ring i, from place `at` on.
+fn write_ring(out: &mut [u8], at: usize, output: &Drawn<'_>, i: usize)
+    requires room { at + 20 ≤ length out.old }
+    requires here { RingsIn (drawn_of output.now) (i + 1) }
+    ensures { out.new ≡ sets out.old at (ring_bytes (drawn_of output.now) i) }
 {
-    write_u32(out, at, start as u64);
-    write_u32(out, at + 4, size as u64);
-    write_u32(out, at + 8, group as u64);
-    write_u64(out, at + 12, area);
+    write_u32(out, at, u64::from(output.start[i]));
+    write_u32(out, at + 4, u64::from(output.size[i]));
+    write_u32(out, at + 8, u64::from(output.group[i]));
+    bits_of(output.area[i]).write(out, at + 12);
 }
 
 // The records of the first rings, behind the summary.
-fn write_rings(
-    out: &mut [u8],
-    start: &[u32],
-    size: &[u32],
-    group: &[u32],
-    area: &[f64],
-    rings: usize,
-)
-    requires { RingsRoom (length out.old) (output start.now size.now group.now area.now []) rings }
-    ensures { out.new ≡ sets out.old 24 (joined (ring_bytes (output start.now size.now group.now area.now [])) rings) }
+fn write_rings(out: &mut [u8], output: &Drawn<'_>, rings: usize)
+    requires { RingsRoom (length out.old) (drawn_of output.now) rings }
+    ensures { out.new ≡ sets out.old 24 (joined (ring_bytes (drawn_of output.now)) rings) }
 {
-    let mut i = 0;
-    while i < rings {
-        write_ring(
-            out,
-            24 + 20 * i,
-            get32(start, i),
-            get32(size, i),
-            get32(group, i),
-            bits_of(area[i]),
-        );
-        i += 1;
+    for i in 0..rings {
+        write_ring(out, 24 + 20 * i, output, i);
     }
 }
 
 // Everything, into an output that is long enough.
-fn write_reading(
-    out: &mut [u8],
-    start: &[u32],
-    size: &[u32],
-    group: &[u32],
-    area: &[f64],
-    edge_rows: &[u32],
-    answer: ReadOut,
-    rings: usize,
-    edges: usize,
-)
-    requires { ReadingRoom (length out.old) answer (output start.now size.now group.now area.now edge_rows.now) rings edges }
-    ensures { out.new ≡ over (read_bytes answer (output start.now size.now group.now area.now edge_rows.now)) out.old }
+fn write_reading(out: &mut [u8], output: &Drawn<'_>, answer: Result<ReadOut, Refusal>, edges: usize)
+    requires { ReadingRoom (length out.old) answer (drawn_of output.now) edges }
+    ensures { out.new ≡ over (read_bytes answer (drawn_of output.now)) out.old }
 {
-    let s = summarise(answer);
-    write_summary(out, s.kind, s.polygons, s.rings, edges as u64, s.area);
-    write_rings(out, start, size, group, area, rings);
-    encode_u32s(&edge_rows[..edges], out, 24 + 20 * rings);
+    let summary = summarise(answer);
+    let rings = summary.rings as usize;
+    write_summary(out, summary, edges);
+    write_rings(out, output, rings);
+    encode(&output.edges[..edges], out, 24 + 20 * rings);
 }
 
-// The answer into the bytes of an output, or nothing where it is refused or has no room; and the result.
-pub fn show(
+// The answer into the bytes of an output, or nothing where it is refused or has no room.
+fn write_answer(
     out: &mut [u8],
-    start: &[u32],
-    size: &[u32],
-    group: &[u32],
-    area: &[f64],
-    edge_rows: &[u32],
-    answer: ReadOut,
-) -> u64
-    requires { ShownRoom answer (output start.now size.now group.now area.now edge_rows.now) }
-    ensures value { result ≡ result_of (shown_verdict answer (output start.now size.now group.now area.now edge_rows.now) out.old) }
-    ensures out_after { out.new ≡ shown_out answer (output start.now size.now group.now area.now edge_rows.now) out.old }
+    output: &Drawn<'_>,
+    answer: Result<ReadOut, Refusal>,
+) -> Result<(), Refusal>
+    requires { ShownRoom answer (drawn_of output.now) }
+    ensures verdict { result ≡ shown_verdict answer (drawn_of output.now) out.old }
+    ensures written { out.new ≡ shown_out answer (drawn_of output.now) out.old }
 {
     let rings = summarise(answer).rings as usize;
-    let edges = edge_count(size, rings);
+    let edges = edge_count(output, rings);
     let fits = 24 + 20 * rings + 4 * edges <= out.len();
-    let verdict = then_fits(verdict_of(answer), fits);
-    if is_accepted(verdict) {
-        write_reading(
-            out, start, size, group, area, edge_rows, answer, rings, edges,
-        );
-    }
-    result(verdict)
+    then_fits(verdict_of(answer), fits)?;
+    write_reading(out, output, answer, edges);
+    Ok(())
+}
+
+// That, and the result as a number.
+pub fn show(out: &mut [u8], output: &Drawn<'_>, answer: Result<ReadOut, Refusal>) -> u64
+    requires { ShownRoom answer (drawn_of output.now) }
+    ensures result { result ≡ result_of (shown_verdict answer (drawn_of output.now) out.old) }
+    ensures written { out.new ≡ shown_out answer (drawn_of output.now) out.old }
+{
+    result(write_answer(out, output, answer))
 }

@@ -1,26 +1,26 @@
 -- `byte_calls::call_within` meets its contract: a change, a read out, or refusal 10, by the number of the call.
 -- Assumes nothing.
 use native.Mathlib.Omega.{arith}
-use Rattle.scope.specs.Answers.{refusal_of}
 use Rattle.scope.specs.Bytes.{rows_in, table_in, state_in}
-use Rattle.byte_calls.proofs.Calling.{calls_change, calls_read, calls_none}
+use Rattle.byte_calls.proofs.Calling.{calls_open, calls_offer, calls_read, calls_none}
 use Rattle.byte_calls.proofs.call_within.Goals as goal
 
-pub returns-then-call-lt2 : goal.returns-then-call-lt2
-returns-then-call-lt2 c =
+pub returns-in-0 : goal.returns-in-0
+returns-in-0 c =
     let a = c.args in
-    calls_change (table_in a.table.now) (state_in (rows_in a.table.now) a.slots a.places a.state.now) a.call a.value a.state.now a.out.now c.if-call-lt2.true c.change_within.ensures
+    calls_open (table_in a.table.now) (state_in (rows_in a.table.now) a.slots a.places a.state.now) a.call a.value a.state.now a.out.now c.in-0.is c.change_within.ensures
 
-pub returns-then-call-eq2 : goal.returns-then-call-eq2
-returns-then-call-eq2 c =
+pub returns-in-1 : goal.returns-in-1
+returns-in-1 c =
     let a = c.args in
-    calls_read (table_in a.table.now) (state_in (rows_in a.table.now) a.slots a.places a.state.now) a.call a.value a.state.now a.out.now c.if-call-eq2.true c.read_within.ensures
+    calls_offer (table_in a.table.now) (state_in (rows_in a.table.now) a.slots a.places a.state.now) a.call a.value a.state.now a.out.now c.in-1.is c.change_within-in-1.ensures
 
-pub result-requires : goal.result-requires
-unfolding refusal_of
-result-requires c = omega arith
-
-pub returns : goal.returns
-returns c =
+pub returns-in-2 : goal.returns-in-2
+returns-in-2 c =
     let a = c.args in
-    calls_none (table_in a.table.now) (state_in (rows_in a.table.now) a.slots a.places a.state.now) a.call a.value a.state.now a.out.now (omega arith) c.result.ensures
+    calls_read (table_in a.table.now) (state_in (rows_in a.table.now) a.slots a.places a.state.now) a.call a.value a.state.now a.out.now c.in-2.is c.read_within.ensures
+
+pub returns-in_default : goal.returns-in_default
+returns-in_default c =
+    let a = c.args in
+    calls_none (table_in a.table.now) (state_in (rows_in a.table.now) a.slots a.places a.state.now) a.call a.value a.state.now a.out.now (λ e. omega arith) (λ e. omega arith) (λ e. omega arith) c.result.ensures

@@ -2,15 +2,9 @@
 -- Assumes nothing.
 use mathlib.Core.Bool.{not}
 use mathlib.Core.Path.{ap}
-use native.Mathlib.Omega.{arith}
-use Rattle.scope.specs.Answers.{refusal_of}
 use Rattle.scope.proofs.Tests.{fails, holds}
 use Rattle.byte_calls.proofs.Limits.{stands, standing_refused}
 use Rattle.byte_calls.proofs.standing.Goals as goal
-
-pub result-requires : goal.result-requires
-unfolding refusal_of
-result-requires c = omega arith
 
 pub returns-then-not-standing_fits : goal.returns-then-not-standing_fits
 returns-then-not-standing_fits c =

@@ -1,8 +1,8 @@
--- `wire::columns::decode_state` meets its contract: the columns of places, slots and rows. Assumes nothing.
+-- `wire::columns::decode_state` meets its contract: each column is filled from its place. Assumes nothing.
 use Rattle.wire.proofs.Decoding.{state_in_lem}
 use Rattle.wire.proofs.columns.decode_state.Goals as goal
 
-pub returns : goal.returns
-returns c =
-    let p = c.decode_places.ensures in let s = c.decode_slots.ensures in let r = c.decode_rows.ensures in
-    state_in_lem c.requires p.decoded32 p.decoded64 p.decoded32_2 p.decoded32_3 p.decoded32_4 s.decoded32 s.decoded32_2 s.decoded32_3 s.decoded32_4 r.decoded32 r.decoded32_2
+pub returns-clause-decoded : goal.returns-clause-decoded
+returns-clause-decoded c =
+    state_in_lem c.requires c.decode.ensures c.decode-2.ensures c.decode-3.ensures c.decode-4.ensures c.decode-5.ensures c.decode-6.ensures c.decode-7.ensures
+    c.decode-8.ensures c.decode-9.ensures c.decode-10.ensures c.decode-11.ensures

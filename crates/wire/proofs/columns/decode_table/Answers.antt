@@ -4,4 +4,4 @@ use Rattle.wire.proofs.columns.decode_table.Goals as goal
 
 pub returns : goal.returns
 returns c =
-    table_in_lem c.args.bytes.now c.requires c.decode_u64s.ensures c.decode_u32s.ensures c.decode_f64s.ensures
+    table_in_lem c.args.bytes.now c.requires c.decode.ensures c.decode-2.ensures c.decode-3.ensures

@@ -5,4 +5,4 @@ use Rattle.wire.proofs.output.write_reading.Goals as goal
 
 pub returns : goal.returns
 returns c =
-    reading_written c.requires c.args.out.now refl c.summarise-s.ensures c.write_summary.ensures c.write_rings.ensures c.encode_u32s.ensures
+    reading_written c.requires c.args.out.now refl c.summarise-summary.ensures c.write_summary.ensures c.write_rings.ensures c.encode.ensures

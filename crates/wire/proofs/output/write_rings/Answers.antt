@@ -7,7 +7,4 @@ pub loop-i-init : goal.loop-i-init
 loop-i-init c = written_none _ _ _ _
 
 pub loop-i-preserved : goal.loop-i-preserved
-loop-i-preserved c =
-    let turn = c.write_ring.ensures in
-    written_next c.loop-i.invariant 20 (λ i. refl) c.loop-i-test.true _
-    (rw (← c.get32.ensures.0, ← c.get32-in-loop-i.ensures.0, ← c.get32-in-loop-i-2.ensures.0, ← c.bits_of.ensures) turn)
+loop-i-preserved c = written_next c.loop-i.invariant 20 (λ i. refl) c.loop-i-test.true _ c.write_ring.ensures

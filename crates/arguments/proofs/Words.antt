@@ -1,27 +1,25 @@
 -- A command line read word by word.
 --     Read, read_none, read_next, read_all    the loop that reads the words
---     begins                                  what is handed on of it
 --     says_help, says_complaint               what is said of it
---     said_within                             and that it lies in its slice
 -- Assumes nothing.
-use Prim.Native.Nat.{ℕ, suc, ◌+◌, ◌≤◌}
+use Prim.Native.Nat.{ℕ, suc, ◌+◌}
 use mathlib.Core.Path.{◌≡◌, refl, sym, ◌∙◌, ap, subst}
 use mathlib.Core.Bool.{Bool, true, false, cond}
 use mathlib.Core.List.{List, [], ◌∷◌, ◌++◌}
 use native.Mathlib.Omega.{arith}
+use Rattle.std.specs.Prelude.{Result, Ok, Err}
 use lib.ListN.{length, length-append}
 use Rattle.text.specs.Text.{Wrote}
 use Rattle.command_line.specs.declared.tools.Tool.{Tool}
 use Rattle.command_line.specs.declared.line.Line.{Line}
-use Rattle.command_line.specs.declared.line.Status.{Status}
+use Rattle.command_line.specs.declared.line.Command.{Command}
+use Rattle.command_line.specs.declared.line.Stop.{Stop}
 use Rattle.command_line.specs.Lines.{no_words, taken, line_from, line_of, status_of}
 use Rattle.command_text.specs.Complaints.{complaint_text}
 use Rattle.command_text.specs.Help.{help_text}
-use Rattle.desk.specs.declared.reports.Report.{Report}
 use Rattle.desk.specs.Reports.{written}
-use Rattle.desk.proofs.Pages.{page, in_written, within}
-use Rattle.arguments.specs.declared.Begun.{Begun}
-use Rattle.arguments.specs.Beginning.{SomeWord, SomeWords, line_text, begun_of, SomeBegun}
+use Rattle.desk.proofs.Pages.{page}
+use Rattle.arguments.specs.Beginning.{SomeWord, SomeWords, line_text}
 
 -- one word more
 line_next : (t : Tool) (k : ℕ) (o : Line) (ws : List (List ℕ)) (w : List ℕ) (j : ℕ) → j ≡ k + length ws → line_from t k o (ws ++ (w ∷ [])) ≡ taken t (line_from t k o ws) j w
@@ -50,22 +48,15 @@ module _ {tool : Tool} {line : Line} where
   pub read_all : {k : ℕ} → Read tool line k → SomeWords tool line
   read_all R = record { words = R.words; comes = R.comes }
 
-  pub begins : {r : Begun} → SomeWords tool line → r ≡ begun_of line → SomeBegun tool r
-  begins S e = record { words = S.words; begins = e ∙ ap (λ (o : Line). begun_of o) S.comes }
-
 module _ (tool : Tool) (line : Line) (word : List ℕ) {slice after : List ℕ} {n : ℕ} where
   pub says_help : line.help ≡ true → Wrote slice 0 after n (help_text tool)
-      → record { text = after; report = record { size = n; done = true } } ≡ written slice (line_text tool line word) line.help
+      → record { text = after; report = Ok n } ≡ written slice (line_text tool line word) line.help
   unfolding line_text
   says_help e W = rw e (page true W)
 
-  pub says_complaint : {s : Status} → line.help ≡ false → s ≡ status_of line → Wrote slice 0 after n (complaint_text tool s line.mode word)
-      → record { text = after; report = record { size = n; done = false } } ≡ written slice (line_text tool line word) line.help
+  pub says_complaint : {s : Result Command Stop} → line.help ≡ false → s ≡ status_of line → Wrote slice 0 after n (complaint_text tool s line.mode_wanted word)
+      → record { text = after; report = Err n } ≡ written slice (line_text tool line word) line.help
   unfolding line_text
   says_complaint e q W =
-      page false (subst (λ (x : Status). Wrote slice 0 after n (complaint_text tool x line.mode word)) q W)
-      ∙ ap (λ (b : Bool). written slice (cond b (help_text tool) (complaint_text tool (status_of line) line.mode word)) b) (sym e)
-
-pub said_within : (tool : Tool) (line : Line) (word slice : List ℕ) {after : List ℕ} {r : Report}
-    → record { text = after; report = r } ≡ written slice (line_text tool line word) line.help → r.size ≤ length after
-said_within tool line word slice e = within e (in_written slice (line_text tool line word) line.help)
+      page false (subst (λ (x : Result Command Stop). Wrote slice 0 after n (complaint_text tool x line.mode_wanted word)) q W)
+      ∙ ap (λ (b : Bool). written slice (cond b (help_text tool) (complaint_text tool (status_of line) line.mode_wanted word)) b) (sym e)

@@ -1,4 +1,4 @@
 -- Laws that the proofs of this crate cite.
-pub mod Numbers
-pub mod Pieces
 pub mod Determined
+pub mod Digits
+pub mod Numbers

@@ -1,165 +1,136 @@
 // One line of a cell list: its comment, its blanks, and the digits of its cell.
 #![tactic(auto)]
 
-ghost use Rattle.std.specs.Prelude.{◌≡◌, true, ◌+◌, ◌≤◌, ◌<◌, ◌^◌, length};
-ghost use Rattle.scope.specs.Lists.{at};
-ghost use Rattle.cell_words.specs.Words.{is_blank, is_digit, is_of, leading as leadingOf, worth, blanks_after, prefixed, prefix_of, number_in, sound_in, digits_of, word_of, trimmed_of, body_of, is_fault, beside_comment, line_of};
-
-use least::least;
-
-// What a line holds: nothing to take, a cell, or a fault.
-#[derive(Clone, Copy)]
-pub enum Line {
-    Passed,
-    Cell(u64),
-    Fault(Wrong),
-}
+ghost use Rattle.std.specs.Prelude.{◌≡◌, ◌+◌, ◌≤◌, ◌<◌, ◌^◌, true, length};
+ghost use Rattle.std.specs.List.{All};
+ghost use Rattle.cell_words.specs.Words.{is_blank, is_digit, worth, blanks_before, blanks_after, before_byte, prefix_of, digits_before, number_in, sound_in, digits_of, word_of, trimmed_of, body_of, comment_of, line_of};
 
 // What is wrong, and at which byte: no cell stands there, or a carriage return inside a comment.
-#[derive(Clone, Copy)]
+#[derive(Clone, Copy, Debug, PartialEq, Eq)]
 pub enum Wrong {
     Word(usize),
     Return(usize),
 }
 
-// Which bytes a scan passes.
-#[derive(Clone, Copy)]
-pub enum Kind {
-    Blank,
-    Digit,
-    OtherThan(u8),
-}
-
 fn is_blank(b: u8) -> bool
     ensures { result ≡ is_blank b }
 {
-    (b == b' ') | (b == b'\t') | (b == b'\r')
+    matches!(b, b' ' | b'\t' | b'\r')
 }
 
 fn is_digit(b: u8) -> bool
     ensures { result ≡ is_digit b }
 {
-    ((b'0' <= b) & (b <= b'9')) | ((b'A' <= b) & (b <= b'F')) | ((b'a' <= b) & (b <= b'f'))
+    b.is_ascii_hexdigit()
 }
 
-fn is_of(kind: Kind, b: u8) -> bool
-    ensures { result ≡ is_of kind b }
+// How many blanks stand in front.
+fn blanks_before(s: &[u8]) -> usize
+    ensures count { result ≡ blanks_before s.now }
+    ensures within { result ≤ length s.now }
 {
-    match kind {
-        Kind::Blank => is_blank(b),
-        Kind::Digit => is_digit(b),
-        Kind::OtherThan(x) => b != x,
-    }
-}
-
-// How many bytes of a kind stand in front.
-pub fn leading(s: &[u8], kind: Kind) -> usize
-    ensures { (result ≡ leadingOf kind s.now) × (result ≤ length s.now) }
-{
-    let mut i: usize = 0;
-    while i < s.len() {
-        if !is_of(kind, s[i]) {
-            return i;
-        }
-        i += 1;
-    }
-    i
+    s.iter().take_while(|b| is_blank(**b)).count()
 }
 
 // How many blanks stand behind.
 fn blanks_after(s: &[u8]) -> usize
-    ensures { (result ≡ blanks_after s.now) × (result ≤ length s.now) }
+    ensures count { result ≡ blanks_after s.now }
+    ensures within { result ≤ length s.now }
 {
-    let mut i: usize = 0;
-    while i < s.len() {
-        if !is_blank(s[s.len() - 1 - i]) {
-            return i;
-        }
-        i += 1;
-    }
-    i
+    s.iter().rev().take_while(|b| is_blank(**b)).count()
 }
 
-// The byte at place i, 0 past the end.
-pub fn byte_at(s: &[u8], i: usize) -> u8
-    ensures { result ≡ at s.now i }
-{
-    if i < s.len() { s[i] } else { 0 }
-}
-
-// Whether 0x or 0X stands in front.
-fn is_prefixed(w: &[u8]) -> bool
-    ensures { result ≡ prefixed w.now }
-{
-    (2 <= w.len()) & (byte_at(w, 0) == b'0') & ((byte_at(w, 1) == b'x') | (byte_at(w, 1) == b'X'))
-}
-
+// How long 0x or 0X is, where it stands in front.
+#[tactic(auto, unfolding(crate::specs::Words::prefix_of))]
 fn prefix_of(w: &[u8]) -> usize
-    ensures { (result ≡ prefix_of w.now) × (result ≤ length w.now) }
+    ensures length { result ≡ prefix_of w.now }
+    ensures within { result ≤ length w.now }
 {
-    if is_prefixed(w) {
+    if w.starts_with(b"0x") || w.starts_with(b"0X") {
         return 2;
     }
     0
 }
 
-fn worth_of(b: u8) -> u64
-    ensures { (result ≡ worth b) × (result < 16) }
+// How many digits stand in front.
+fn digits_before(s: &[u8]) -> usize
+    ensures count { result ≡ digits_before s.now }
+    ensures within { result ≤ length s.now }
 {
-    let x = b as u64;
-    if x <= 57 { x % 16 } else { (x + 9) % 16 }
+    s.iter().take_while(|b| is_digit(**b)).count()
+}
+
+// How many bytes stand before the first `byte`.
+fn before_byte(s: &[u8], byte: u8) -> usize
+    ensures count { result ≡ before_byte byte s.now }
+    ensures within { result ≤ length s.now }
+{
+    s.iter().take_while(|b| **b != byte).count()
+}
+
+#[tactic(auto, using(crate::proofs::Digits::digit_worth, crate::proofs::Digits::digit_small))]
+fn worth_of(b: u8) -> u64
+    requires { is_digit b ≡ true }
+    ensures worth { result ≡ worth b }
+    ensures digit { result < 16 }
+{
+    u64::from(char::from(b).to_digit(16).unwrap())
 }
 
 // The number of at most sixteen digits.
 fn number_in(digits: &[u8]) -> u64
-    requires { length digits.now ≤ 16 }
+    requires few { length digits.now ≤ 16 }
+    requires all { All (λ b. is_digit b ≡ true) digits.now }
     ensures { result ≡ number_in digits.now (length digits.now) }
 {
     let mut number: u64 = 0;
-    let mut i: usize = 0;
-    while i < digits.len() {
-        number = number * 16 + worth_of(digits[i]);
-        i += 1;
+    for b in digits {
+        number = number * 16 + worth_of(*b);
     }
     number
 }
 
 // How many bytes in front may stand, of which n are digits.
+#[tactic(auto, unfolding(crate::specs::Words::sound_in))]
 fn sound_in(digits: &[u8], n: usize) -> usize
     requires { n ≤ length digits.now }
-    ensures { (result ≡ sound_in digits.now n) × (result ≤ length digits.now) }
+    ensures count { result ≡ sound_in digits.now n }
+    ensures within { result ≤ length digits.now }
 {
     if (1 <= n) & (n <= 16) {
-        return n + leading(&digits[n..], Kind::Blank);
+        return n + blanks_before(&digits[n..]);
     }
-    least(n, 16)
+    n.min(16)
 }
 
 // Digits that stand at place `start` of their line.
-fn read_digits(digits: &[u8], start: usize) -> Line
+#[tactic(auto, unfolding(crate::specs::Words::digits_of))]
+fn read_digits(digits: &[u8], start: usize) -> Result<u64, Wrong>
     requires { start < 2 ^ 63 }
     ensures { result ≡ digits_of start digits.now }
 {
-    let n = leading(digits, Kind::Digit);
+    let n = digits_before(digits);
     if (n == digits.len()) & (1 <= n) & (n <= 16) {
-        return Line::Cell(number_in(digits));
+        return Ok(number_in(digits));
     }
-    Line::Fault(Wrong::Word(start + sound_in(digits, n) + 1))
+    Err(Wrong::Word(start + sound_in(digits, n) + 1))
 }
 
-fn read_word(word: &[u8], start: usize) -> Line
+#[tactic(auto, unfolding(crate::specs::Words::word_of))]
+fn read_word(word: &[u8], start: usize) -> Result<Option<u64>, Wrong>
     requires { start + length word.now < 2 ^ 63 }
     ensures { result ≡ word_of start word.now }
 {
-    if word.len() == 0 {
-        return Line::Passed;
+    if word.is_empty() {
+        return Ok(None);
     }
     let prefix = prefix_of(word);
-    read_digits(&word[prefix..], start + prefix)
+    read_digits(&word[prefix..], start + prefix).map(Some)
 }
 
 // What is left of a line behind the blanks in front, which were `start` bytes.
-fn read_trimmed(rest: &[u8], start: usize) -> Line
+#[tactic(auto, unfolding(crate::specs::Words::trimmed_of))]
+fn read_trimmed(rest: &[u8], start: usize) -> Result<Option<u64>, Wrong>
     requires { start + length rest.now < 2 ^ 63 }
     ensures { result ≡ trimmed_of start rest.now }
 {
@@ -168,40 +139,34 @@ fn read_trimmed(rest: &[u8], start: usize) -> Line
 }
 
 // A line without its comment.
-fn read_body(body: &[u8]) -> Line
+#[tactic(auto, unfolding(crate::specs::Words::body_of))]
+fn read_body(body: &[u8]) -> Result<Option<u64>, Wrong>
     ensures { result ≡ body_of body.now }
 {
-    let start = leading(body, Kind::Blank);
+    let start = blanks_before(body);
     read_trimmed(&body[start..], start)
 }
 
-fn is_fault(line: Line) -> bool
-    ensures { result ≡ is_fault line }
-{
-    match line {
-        Line::Passed => false,
-        Line::Cell(_) => false,
-        Line::Fault(_) => true,
-    }
-}
-
-// What the body of a line holds, or the fault of the comment behind it, which begins at place `start`.
-fn beside_comment(comment: &[u8], start: usize, body: Line) -> Line
+// The comment behind the body of a line, which begins at place `start`.
+#[tactic(auto, unfolding(crate::specs::Words::comment_of))]
+fn read_comment(comment: &[u8], start: usize) -> Result<(), Wrong>
     requires { start + length comment.now < 2 ^ 63 }
-    ensures { result ≡ beside_comment start comment.now body }
+    ensures { result ≡ comment_of start comment.now }
 {
-    let n = leading(comment, Kind::OtherThan(b'\r'));
-    if is_fault(body) | (comment.len() <= n + 1) {
-        return body;
+    let n = before_byte(comment, b'\r');
+    if comment.len() <= n + 1 {
+        return Ok(());
     }
-    Line::Fault(Wrong::Return(start + n + 1))
+    Err(Wrong::Return(start + n + 1))
 }
 
-// A whole line, without its newline.
-pub fn read_line(line: &[u8]) -> Line
+// A whole line, without its newline: its cell, if it has one.
+#[tactic(auto, unfolding(crate::specs::Words::line_of))]
+pub fn read_line(line: &[u8]) -> Result<Option<u64>, Wrong>
     ensures { result ≡ line_of line.now }
 {
-    let size = leading(line, Kind::OtherThan(b'#'));
-    let body = read_body(&line[..size]);
-    beside_comment(&line[size..], size, body)
+    let size = before_byte(line, b'#');
+    let cell = read_body(&line[..size])?;
+    read_comment(&line[size..], size)?;
+    Ok(cell)
 }

@@ -1,44 +1,60 @@
 // A command line, taken word by word: options, and files, the table first.
 ghost use Rattle.std.specs.Prelude.{◌≡◌};
-ghost use Rattle.command_line.specs.Lines.{no_words, with_help, with_rows, with_mode, with_fault, file_taken, mode_taken, word_taken, is_help, kind_taken, taken, status_of};
+ghost use Rattle.command_line.specs.Lines.{mode_number, no_words, with_help, with_rows, with_mode, with_mode_wanted, with_fault, file_taken, mode_taken, word_taken, known_taken, taken, status_of};
 
-use crate::tools::{Tool, takes_many};
+use crate::tools::Tool;
 use crate::words::{Word, word_of};
 
-// What the words so far come to. Mode 2 names none, and 3 means that the next word is to be a mode. `table`, `list` (the first, where a
-// tool takes several) and `fault` are numbers of words, 0 for none.
-#[derive(Clone, Copy)]
+// The mode that is meant, of which the words may name none.
+#[derive(Clone, Copy, Debug, PartialEq, Eq)]
+pub enum Mode {
+    Even,
+    Mixed,
+    Unnamed,
+}
+
+impl Mode {
+    // The library's number of it.
+    pub fn number(self) -> usize
+        ensures { result ≡ mode_number self }
+    {
+        match self {
+            Mode::Even => 0,
+            Mode::Mixed => 1,
+            Mode::Unnamed => 2,
+        }
+    }
+}
+
+// What the words so far come to. `table`, `list` (the first, where a tool takes several) and `fault` are numbers of words; a mode is
+// wanted where the next word is to be one.
+#[derive(Clone, Copy, Debug, PartialEq, Eq)]
 pub struct Line {
     pub help: bool,
     pub rows: bool,
-    pub mode: usize,
-    pub table: usize,
-    pub list: usize,
-    pub fault: usize,
+    pub mode: Mode,
+    pub mode_wanted: bool,
+    pub table: Option<usize>,
+    pub list: Option<usize>,
+    pub fault: Option<usize>,
 }
 
-// Help; a word that cannot be taken; no mode after the last --mode; a file too few; or all that is needed.
-#[derive(Clone, Copy)]
-pub enum Status {
+// All that a tool needs; the files are numbers of words.
+#[derive(Clone, Copy, Debug, PartialEq, Eq)]
+pub struct Command {
+    pub rows: bool,
+    pub mode: Mode,
+    pub table: usize,
+    pub list: usize,
+}
+
+// Why a tool does not go on: help is asked for; a word cannot be taken; no mode after the last --mode; a file too few.
+#[derive(Clone, Copy, Debug, PartialEq, Eq)]
+pub enum Stop {
     Help,
     Fault(usize),
     ModeWanted,
     FilesWanted,
-    Ready,
-}
-
-fn is_help(word: Word) -> bool
-    ensures { result ≡ is_help word }
-{
-    match word {
-        Word::Help => true,
-        Word::Rows => false,
-        Word::Mode => false,
-        Word::Even => false,
-        Word::Mixed => false,
-        Word::File => false,
-        Word::Bad => false,
-    }
 }
 
 impl Line {
@@ -48,10 +64,11 @@ impl Line {
         Self {
             help: false,
             rows: false,
-            mode: 2,
-            table: 0,
-            list: 0,
-            fault: 0,
+            mode: Mode::Unnamed,
+            mode_wanted: false,
+            table: None,
+            list: None,
+            fault: None,
         }
     }
 
@@ -59,7 +76,7 @@ impl Line {
     fn refuse(mut self, k: usize) -> Self
         ensures { result ≡ with_fault self k }
     {
-        self.fault = k;
+        self.fault = Some(k);
         self
     }
 
@@ -77,69 +94,75 @@ impl Line {
         self
     }
 
-    fn set_mode(mut self, mode: usize) -> Self
-        ensures { result ≡ with_mode self mode }
+    fn want_mode(mut self) -> Self
+        ensures { result ≡ with_mode_wanted self }
     {
-        self.mode = mode;
+        self.mode_wanted = true;
         self
     }
 
+    fn set_mode(mut self, mode: Mode) -> Self
+        ensures { result ≡ with_mode self mode }
+    {
+        self.mode = mode;
+        self.mode_wanted = false;
+        self
+    }
+
+    #[tactic(auto, unfolding(crate::specs::Lines::file_taken))]
     fn take_file(mut self, tool: Tool, k: usize) -> Self
         ensures { result ≡ file_taken tool self k }
     {
-        if self.table == 0 {
-            self.table = k;
+        if self.table.is_none() {
+            self.table = Some(k);
             return self;
         }
-        if self.list == 0 {
-            self.list = k;
+        if self.list.is_none() {
+            self.list = Some(k);
             return self;
         }
-        if takes_many(tool) {
+        if tool.takes_many() {
             return self;
         }
         self.refuse(k)
     }
 
-    fn take_mode(self, k: usize, word: Word) -> Self
+    #[tactic(auto, unfolding(crate::specs::Lines::mode_taken))]
+    fn take_mode(self, k: usize, word: Option<Word>) -> Self
         ensures { result ≡ mode_taken self k word }
     {
         match word {
-            Word::Help => self.refuse(k),
-            Word::Rows => self.refuse(k),
-            Word::Mode => self.refuse(k),
-            Word::Even => self.set_mode(0),
-            Word::Mixed => self.set_mode(1),
-            Word::File => self.refuse(k),
-            Word::Bad => self.refuse(k),
+            Some(Word::Even) => self.set_mode(Mode::Even),
+            Some(Word::Mixed) => self.set_mode(Mode::Mixed),
+            _ => self.refuse(k),
         }
     }
 
-    fn take_word(self, tool: Tool, k: usize, word: Word) -> Self
+    #[tactic(auto, unfolding(crate::specs::Lines::word_taken))]
+    fn take_word(self, tool: Tool, k: usize, word: Option<Word>) -> Self
         ensures { result ≡ word_taken tool self k word }
     {
         match word {
-            Word::Help => self.ask_help(),
-            Word::Rows => self.ask_rows(),
-            Word::Mode => self.set_mode(3),
-            Word::Even => self.take_file(tool, k),
-            Word::Mixed => self.take_file(tool, k),
-            Word::File => self.take_file(tool, k),
-            Word::Bad => self.refuse(k),
+            Some(Word::Help) => self.ask_help(),
+            Some(Word::Rows) => self.ask_rows(),
+            Some(Word::Mode) => self.want_mode(),
+            Some(Word::Even | Word::Mixed | Word::File) => self.take_file(tool, k),
+            None => self.refuse(k),
         }
     }
 
     // Help is found anywhere. Once a word could not be taken, no other is.
-    fn take_kind(self, tool: Tool, k: usize, word: Word) -> Self
-        ensures { result ≡ kind_taken tool self k word }
+    #[tactic(auto, unfolding(crate::specs::Lines::known_taken))]
+    fn take_known(self, tool: Tool, k: usize, word: Option<Word>) -> Self
+        ensures { result ≡ known_taken tool self k word }
     {
-        if is_help(word) {
+        if word == Some(Word::Help) {
             return self.ask_help();
         }
-        if self.fault != 0 {
+        if self.fault.is_some() {
             return self;
         }
-        if self.mode == 3 {
+        if self.mode_wanted {
             return self.take_mode(k, word);
         }
         self.take_word(tool, k, word)
@@ -149,24 +172,30 @@ impl Line {
     pub fn take(self, tool: Tool, k: usize, word: &[u8]) -> Self
         ensures { result ≡ taken tool self k word.now }
     {
-        self.take_kind(tool, k, word_of(tool, word))
+        self.take_known(tool, k, word_of(tool, word))
     }
 
-    pub fn status(self) -> Status
+    #[tactic(auto, unfolding(crate::specs::Lines::status_of))]
+    pub fn status(self) -> Result<Command, Stop>
         ensures { result ≡ status_of self }
     {
         if self.help {
-            return Status::Help;
+            return Err(Stop::Help);
         }
-        if self.fault != 0 {
-            return Status::Fault(self.fault);
+        if let Some(k) = self.fault {
+            return Err(Stop::Fault(k));
         }
-        if self.mode == 3 {
-            return Status::ModeWanted;
+        if self.mode_wanted {
+            return Err(Stop::ModeWanted);
         }
-        if self.list == 0 {
-            return Status::FilesWanted;
-        }
-        Status::Ready
+        let (Some(table), Some(list)) = (self.table, self.list) else {
+            return Err(Stop::FilesWanted);
+        };
+        Ok(Command {
+            rows: self.rows,
+            mode: self.mode,
+            table,
+            list,
+        })
     }
 }

@@ -2,31 +2,25 @@
 ghost use Rattle.std.specs.Prelude.{◌≡◌};
 ghost use Rattle.command_line.specs.Tools.{takes_options, takes_many};
 
-#[derive(Clone, Copy)]
+#[derive(Clone, Copy, Debug, PartialEq, Eq)]
 pub enum Tool {
     Outline,
     TillImport,
     YearAudit,
 }
 
-// Whether it has options beside --help.
-pub(crate) fn takes_options(tool: Tool) -> bool
-    ensures { result ≡ takes_options tool }
-{
-    match tool {
-        Tool::Outline => true,
-        Tool::TillImport => false,
-        Tool::YearAudit => false,
+impl Tool {
+    // Whether it has options beside --help.
+    pub(crate) fn takes_options(self) -> bool
+        ensures { result ≡ takes_options self }
+    {
+        matches!(self, Tool::Outline)
     }
-}
 
-// Whether it takes more than one list.
-pub(crate) fn takes_many(tool: Tool) -> bool
-    ensures { result ≡ takes_many tool }
-{
-    match tool {
-        Tool::Outline => false,
-        Tool::TillImport => true,
-        Tool::YearAudit => false,
+    // Whether it takes more than one list.
+    pub(crate) fn takes_many(self) -> bool
+        ensures { result ≡ takes_many self }
+    {
+        matches!(self, Tool::TillImport)
     }
 }

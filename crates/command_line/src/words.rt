@@ -1,12 +1,11 @@
 // What a word of the command line means, by its text.
 ghost use Rattle.std.specs.Prelude.{◌≡◌};
-ghost use Rattle.scope.specs.Lists.{at as byte_at};
-ghost use Rattle.command_line.specs.Words.{same_text, fits as hasFitting, own_option, option_of, name_of, word_of};
+ghost use Rattle.command_line.specs.Words.{begins_as_option, fits as hasFitting, own_option, option_of, name_of, word_of};
 
-use crate::tools::{Tool, takes_options};
+use crate::tools::Tool;
 
-// An option that the tool has; a mode, which may be a file's name too; any other name of a file; or what no tool can take.
-#[derive(Clone, Copy)]
+// An option that the tool has; a mode, which may be a file's name too; or any other name of a file.
+#[derive(Clone, Copy, Debug, PartialEq, Eq)]
 pub enum Word {
     Help,
     Rows,
@@ -14,20 +13,13 @@ pub enum Word {
     Even,
     Mixed,
     File,
-    Bad,
 }
 
-fn is_text(word: &[u8], other: &[u8]) -> bool
-    ensures { result ≡ same_text word.now other.now }
+// Whether it is an option, or no word that can be taken.
+pub fn begins_as_option(word: &[u8]) -> bool
+    ensures { result ≡ begins_as_option word.now }
 {
-    check::same(word, other)
-}
-
-// The first byte, 0 where there is none.
-pub fn first_byte(word: &[u8]) -> u8
-    ensures { result ≡ byte_at word.now 0 }
-{
-    if 0 < word.len() { word[0] } else { 0 }
+    word.starts_with(b"-")
 }
 
 // Neither empty nor longer than a path can be.
@@ -38,50 +30,55 @@ fn fits(word: &[u8]) -> bool
 }
 
 // An option beside --help, for a tool that has some.
-fn own_option(word: &[u8]) -> Word
+#[tactic(auto, unfolding(crate::specs::Words::own_option))]
+fn own_option(word: &[u8]) -> Option<Word>
     ensures { result ≡ own_option word.now }
 {
-    if is_text(word, b"--rows") {
-        return Word::Rows;
+    if word == b"--rows".as_slice() {
+        return Some(Word::Rows);
     }
-    if is_text(word, b"--mode") {
-        return Word::Mode;
+    if word == b"--mode".as_slice() {
+        return Some(Word::Mode);
     }
-    Word::Bad
+    None
 }
 
-fn option_of(tool: Tool, word: &[u8]) -> Word
+#[tactic(auto, unfolding(crate::specs::Words::option_of))]
+fn option_of(tool: Tool, word: &[u8]) -> Option<Word>
     ensures { result ≡ option_of tool word.now }
 {
-    if is_text(word, b"--help") {
-        return Word::Help;
+    if word == b"--help".as_slice() {
+        return Some(Word::Help);
     }
-    if takes_options(tool) {
+    if tool.takes_options() {
         return own_option(word);
     }
-    Word::Bad
+    None
 }
 
+#[tactic(auto, unfolding(crate::specs::Words::name_of))]
 fn name_of(word: &[u8]) -> Word
     ensures { result ≡ name_of word.now }
 {
-    if is_text(word, b"even") {
+    if word == b"even".as_slice() {
         return Word::Even;
     }
-    if is_text(word, b"mixed") {
+    if word == b"mixed".as_slice() {
         return Word::Mixed;
     }
     Word::File
 }
 
-pub fn word_of(tool: Tool, word: &[u8]) -> Word
+// None where no tool can take it.
+#[tactic(auto, unfolding(crate::specs::Words::word_of))]
+pub fn word_of(tool: Tool, word: &[u8]) -> Option<Word>
     ensures { result ≡ word_of tool word.now }
 {
-    if first_byte(word) == b'-' {
+    if begins_as_option(word) {
         return option_of(tool, word);
     }
     if fits(word) {
-        return name_of(word);
+        return Some(name_of(word));
     }
-    Word::Bad
+    None
 }

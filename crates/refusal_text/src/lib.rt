@@ -1,127 +1,100 @@
 // Refusals in words.
 #![tactic(auto)]
 
-ghost use Rattle.std.specs.Prelude.{◌≤◌, length};
-ghost use Rattle.text.specs.Text.{Wrote};
-ghost use Rattle.refusal_text.specs.Refusals.{memory_words, refusal_words, row_words, reason_words, refusal_place, refusal_text};
+ghost use Rattle.std.specs.Prelude.{◌≡◌, ◌≤◌, [], ◌∷◌, ◌++◌, length};
+ghost use Rattle.scope.specs.Answers.{refusal_number, refusal_index};
+ghost use Rattle.text.specs.Text.{shown, Wrote};
+ghost use Rattle.note_text.specs.Notes.{noted};
+ghost use Rattle.refusal_text.specs.Refusals.{refusal_words, row_words, reason_words, refusal_place, refusal_text};
 
 use note_text::put_noted;
+use scope::Refusal;
 use text::{put_bytes, put_shown};
 
-// The words of 7 to 10, which are of the memory lent.
-fn put_memory_words(out: &mut [u8], at: usize, number: usize) -> usize
-    requires { at ≤ length out.old }
-    ensures { Wrote out.old at out.new result (memory_words number) }
+// The words of a refusal by its number alone; those of 7 to 10 are of the memory lent.
+#[tactic(auto, unfolding(crate::specs::Refusals::refusal_words))]
+fn words_of(number: usize) -> &'static [u8]
+    ensures { result.now ≡ refusal_words number }
 {
-    if number == 7 {
-        return put_bytes(
-            out,
-            at,
-            b"the pool has too few free slots for this cell's outline",
-        );
+    match number {
+        1 => b"the table breaks a rule",
+        2 => b"this is no valid cell",
+        3 => b"this cell is there already, or lies under another",
+        4 => b"this cell's resolution does not fit the table",
+        5 => b"an edge of this cell's outline is not in the table",
+        6 => b"this cell's outline names an edge twice",
+        7 => b"the pool has too few free slots for this cell's outline",
+        8 => b"there are more cells than places",
+        9 => b"the state breaks a rule",
+        _ => b"a length, a capacity or the mode is out of range, or an output is too short",
     }
-    if number == 8 {
-        return put_bytes(out, at, b"there are more cells than places");
-    }
-    if number == 9 {
-        return put_bytes(out, at, b"the state breaks a rule");
-    }
-    put_bytes(
-        out,
-        at,
-        b"a length, a capacity or the mode is out of range, or an output is too short",
-    )
 }
 
+// By the number, since an audit counts refusals by it.
 pub fn put_words(out: &mut [u8], at: usize, number: usize) -> usize
     requires { at ≤ length out.old }
     ensures { Wrote out.old at out.new result (refusal_words number) }
 {
-    if number == 1 {
-        return put_bytes(out, at, b"the table breaks a rule");
-    }
-    if number == 2 {
-        return put_bytes(out, at, b"this is no valid cell");
-    }
-    if number == 3 {
-        return put_bytes(
-            out,
-            at,
-            b"this cell is there already, or lies under another",
-        );
-    }
-    if number == 4 {
-        return put_bytes(out, at, b"this cell's resolution does not fit the table");
-    }
-    if number == 5 {
-        return put_bytes(
-            out,
-            at,
-            b"an edge of this cell's outline is not in the table",
-        );
-    }
-    if number == 6 {
-        return put_bytes(out, at, b"this cell's outline names an edge twice");
-    }
-    put_memory_words(out, at, number)
+    put_bytes(out, at, words_of(number))
 }
 
 // The words of 1 by its row.
-fn put_row_words(out: &mut [u8], at: usize, index: usize) -> usize
-    requires { at ≤ length out.old }
-    ensures { Wrote out.old at out.new result (row_words index) }
+fn row_words(row: usize) -> &'static [u8]
+    ensures { result.now ≡ row_words row }
 {
-    if index == 0 {
-        return put_bytes(
-            out,
-            at,
-            b"the table has fewer than 2 rows or more than 65536, its resolutions are unequal, or this row is no valid edge, is not named back by its reverse row, or has no finite area term",
-        );
+    if row == 0 {
+        return b"the table has fewer than 2 rows or more than 65536, its resolutions are unequal, or this row is no valid edge, is not named back by its reverse row, or has no finite area term";
     }
-    put_bytes(
-        out,
-        at,
-        b"this row (the first is row 0, each has 20 bytes) is no valid edge, is out of order, is not named back by its reverse row, or has no finite area term",
-    )
+    b"this row (the first is row 0, each has 20 bytes) is no valid edge, is out of order, is not named back by its reverse row, or has no finite area term"
 }
 
-// The words of a refusal by number and index.
-fn put_reason(out: &mut [u8], at: usize, number: usize, index: usize) -> usize
-    requires { at ≤ length out.old }
-    ensures { Wrote out.old at out.new result (reason_words number index) }
+// The words of a refusal.
+#[tactic(auto, unfolding(scope::specs::Answers::refusal_number, scope::specs::Answers::refusal_index))]
+fn reason_of(refusal: Refusal) -> &'static [u8]
+    ensures { result.now ≡ reason_words (refusal_number refusal) (refusal_index refusal) }
 {
-    if number == 1 {
-        return put_row_words(out, at, index);
+    match refusal {
+        Refusal::BadTable(row) => row_words(row),
+        _ => words_of(refusal.number()),
     }
-    put_words(out, at, number)
+}
+
+// A file, and a row or a line in it.
+fn put_spot(out: &mut [u8], at: usize, file: &[u8], word: &[u8], n: usize) -> usize
+    requires { at ≤ length out.old }
+    ensures { Wrote out.old at out.new result (shown file.now ++ noted word.now n (58 ∷ 32 ∷ [])) }
+{
+    let named = put_shown(out, at, file);
+    put_noted(out, named, word, n, b": ")
 }
 
 // The file that a refusal points at, if any, and the row or the line in it; `line` is the line of the cell.
+#[tactic(auto, unfolding(crate::specs::Refusals::refusal_place, scope::specs::Answers::refusal_number, scope::specs::Answers::refusal_index))]
 fn put_place(
     out: &mut [u8],
     at: usize,
     table: &[u8],
     list: &[u8],
-    number: usize,
-    index: usize,
+    refusal: Refusal,
     line: usize,
 ) -> usize
     requires { at ≤ length out.old }
-    ensures { Wrote out.old at out.new result (refusal_place table.now list.now number index line) }
+    ensures { Wrote out.old at out.new result (refusal_place table.now list.now (refusal_number refusal) (refusal_index refusal) line) }
 {
-    if number == 1 {
-        let named = put_shown(out, at, table);
-        return put_noted(out, named, b" row ", index, b": ");
+    match refusal {
+        Refusal::BadTable(row) => put_spot(out, at, table, b" row ", row),
+        Refusal::InvalidCell(_)
+        | Refusal::DuplicateInput(_)
+        | Refusal::UnsupportedResolution(_)
+        | Refusal::EdgeNotInTable(_)
+        | Refusal::EdgeTwice(_)
+        | Refusal::PoolFull(_) => put_spot(out, at, list, b" line ", line),
+        Refusal::TooManyCells => {
+            let named = put_shown(out, at, list);
+            put_bytes(out, named, b": ")
+        }
+        Refusal::BrokenState | Refusal::BadLengths => at,
     }
-    if (2 <= number) & (number <= 7) {
-        let named = put_shown(out, at, list);
-        return put_noted(out, named, b" line ", line, b": ");
-    }
-    if number == 8 {
-        let named = put_shown(out, at, list);
-        return put_bytes(out, named, b": ");
-    }
-    at
 }
 
 // A refusal: where, its number, and in words.
@@ -130,15 +103,14 @@ pub fn put_refusal(
     at: usize,
     table: &[u8],
     list: &[u8],
-    number: usize,
-    index: usize,
+    refusal: Refusal,
     line: usize,
 ) -> usize
     requires { at ≤ length out.old }
-    ensures { Wrote out.old at out.new result (refusal_text table.now list.now number index line) }
+    ensures { Wrote out.old at out.new result (refusal_text table.now list.now (refusal_number refusal) (refusal_index refusal) line) }
 {
-    let placed = put_place(out, at, table, list, number, index, line);
-    let numbered = put_noted(out, placed, b"refused ", number, b", ");
-    let worded = put_reason(out, numbered, number, index);
+    let placed = put_place(out, at, table, list, refusal, line);
+    let numbered = put_noted(out, placed, b"refused ", refusal.number(), b", ");
+    let worded = put_bytes(out, numbered, reason_of(refusal));
     put_bytes(out, worded, b"\n")
 }

@@ -1,25 +1,26 @@
 -- Rows decoded over the start of three slices.
 --     rows_over    the three lent parts, come back, are the table over what was there
 --     in_room      rows that fit the room fit each slice
---     too_many, cut_off, rows_fit     what a file is, by its length
+--     fits, unfit                     what the answer says of the file
 --     table_read, table_refused       what the reader promises, by whether the rows fit
 -- Assumes nothing.
-use Prim.Native.Nat.{ℕ, ◌-◌, ◌*◌, ◌%◌, ◌≤◌, ◌<◌, min}
+use Prim.Native.Nat.{ℕ, ◌%◌, ◌≤◌, min}
 use mathlib.Core.Path.{◌≡◌, refl, sym, ◌∙◌, ap}
-use mathlib.Core.Bool.{Bool, true, false, cond}
+use mathlib.Core.Bool.{Bool, true, false, ◌&&◌, cond}
 use mathlib.Core.List.{List, ◌++◌}
+use mathlib.Core.Logic.{⊎_elim}
 use native.Mathlib.Nat.{min-le_left, min-le_right}
 use native.Mathlib.Omega.{arith}
-use borrow.Author.Tests.{eq-eqb, ne_eqb, le-leb, lt-leb, leb-true}
+use borrow.Author.Tests.{leb-true}
 use lib.Dec.{eqb, leb}
 use lib.Ieee.{Float}
 use lib.ListN.{length, take, drop}
 use lib.Seq.{length-take-le}
 use Rattle.scope.specs.Table.{Table, table}
 use Rattle.scope.specs.Bytes.{rows_in, table_in}
-use Rattle.scope.proofs.Tests.{and_right}
-use Rattle.table_bytes.specs.declared.TableFile.{TableFile}
-use Rattle.table_bytes.specs.declared.TableFile.TheVariants.{Rows, CutOff, TooMany}
+use Rattle.scope.proofs.Tests.{either, and_right}
+use Rattle.std.specs.Prelude.{Ok, Err}
+use Rattle.table_bytes.specs.declared.TableFault.{TableFault}
 use Rattle.table_bytes.specs.Files.{table_fits, file_of, over_table, room_of, TableRead}
 
 pub rows_over : (b E R : List ℕ) (A : List Float) {n : ℕ} {e r : List ℕ} {a : List Float}
@@ -45,32 +46,45 @@ in_room b t {room} e h =
     let v = min-le_right (length t.edges) (length t.reverse) in
     (omega arith, omega arith, omega arith)
 
+and_no : (a b : Bool) → b ≡ false → (a && b) ≡ false
+and_no true b e = e
+and_no false b e = refl
+
+-- whole rows are read just where they fit
 module _ (b : List ℕ) (room : ℕ) where
-  pub too_many : room < rows_in b → TooMany (room * 20) ≡ file_of room b
+  pub fits : {rows : ℕ} → file_of room b ≡ Ok rows → table_fits room b ≡ true
   unfolding file_of
-  too_many k = rw (lt-leb (rows_in b) room k) refl
+  fits q = ⊎_elim
+      (λ (l : leb (rows_in b) room ≡ true). ⊎_elim
+      (λ (z : eqb (length b % 20) 0 ≡ true). rw (l, z) refl)
+      (λ (z : eqb (length b % 20) 0 ≡ false). let e = rw (l, z) at q in cc)
+      (either (eqb (length b % 20) 0)))
+      (λ (l : leb (rows_in b) room ≡ false). let e = rw l at q in cc)
+      (either (leb (rows_in b) room))
 
-  pub cut_off : rows_in b ≤ room → (length b % 20 ≡ 0 → ⊥) → CutOff (length b - length b % 20) ≡ file_of room b
+  pub unfit : {fault : TableFault} → file_of room b ≡ Err fault → table_fits room b ≡ false
   unfolding file_of
-  cut_off k h = rw (le-leb (rows_in b) room k, ne_eqb (length b % 20) 0 h) refl
-
-  pub rows_fit : rows_in b ≤ room → length b % 20 ≡ 0 → Rows (rows_in b) ≡ file_of room b
-  unfolding file_of
-  rows_fit k h = rw (le-leb (rows_in b) room k, eq-eqb (length b % 20) 0 h) refl
+  unfit q = ⊎_elim
+      (λ (l : leb (rows_in b) room ≡ true). ⊎_elim
+      (λ (z : eqb (length b % 20) 0 ≡ true). let e = rw (l, z) at q in cc)
+      (λ (z : eqb (length b % 20) 0 ≡ false). rw z refl)
+      (either (eqb (length b % 20) 0)))
+      (λ (l : leb (rows_in b) room ≡ false). and_no (eqb (length b % 20) 0) (leb (rows_in b) room) l)
+      (either (leb (rows_in b) room))
 
 -- the room was reckoned from the three lengths
 pub room_is : (t : Table) {k room : ℕ} → k ≡ min (length t.edges) (length t.reverse) → room ≡ min k (length t.area) → room ≡ room_of t
 room_is t e f = f ∙ ap (λ (k : ℕ). min k (length t.area)) e
 
-module _ (b : List ℕ) (t : Table) {room : ℕ} (e : room ≡ room_of t) {r : TableFile} (f : r ≡ file_of room b) where
-  pub table_read : {t' : Table} → table_fits room b ≡ true → t' ≡ over_table (table_in b) t → TableRead b t r t'
-  table_read h q = record {
-    answer = f ∙ ap (λ (k : ℕ). file_of k b) e;
-    left = q ∙ ap (λ (x : Bool). cond x (over_table (table_in b) t) t) (sym h ∙ ap (λ (k : ℕ). table_fits k b) e);
+module _ (b : List ℕ) (t : Table) {room : ℕ} (e : room ≡ room_of t) where
+  pub table_read : {rows : ℕ} {t' : Table} → file_of room b ≡ Ok rows → t' ≡ over_table (table_in b) t → TableRead b t (Ok rows) t'
+  table_read q u = record {
+    answer = sym q ∙ ap (λ (k : ℕ). file_of k b) e;
+    left = u ∙ ap (λ (x : Bool). cond x (over_table (table_in b) t) t) (sym (fits b room q) ∙ ap (λ (k : ℕ). table_fits k b) e);
   }
 
-  pub table_refused : table_fits room b ≡ false → TableRead b t r t
-  table_refused h = record {
-    answer = f ∙ ap (λ (k : ℕ). file_of k b) e;
-    left = ap (λ (x : Bool). cond x (over_table (table_in b) t) t) (sym h ∙ ap (λ (k : ℕ). table_fits k b) e);
+  pub table_refused : {fault : TableFault} → file_of room b ≡ Err fault → TableRead b t (Err fault) t
+  table_refused q = record {
+    answer = sym q ∙ ap (λ (k : ℕ). file_of k b) e;
+    left = ap (λ (x : Bool). cond x (over_table (table_in b) t) t) (sym (unfit b room q) ∙ ap (λ (k : ℕ). table_fits k b) e);
   }

@@ -6,30 +6,29 @@ ghost use Rattle.scope.specs.Table.{table};
 ghost use Rattle.scope.specs.Bytes.{rows_in, table_in};
 ghost use Rattle.table_bytes.specs.Files.{file_of, over_table, TableRead};
 
-use least::least;
 use wire::columns::decode_table;
 
-// So many rows; a row that is cut off, or the first that there is no room for, by the byte that it begins at.
-#[derive(Clone, Copy)]
-pub enum TableFile {
-    Rows(usize),
+// What is wrong with a file: a row that is cut off, or the first that there is no room for, by the byte that it begins at.
+#[derive(Clone, Copy, Debug, PartialEq, Eq)]
+pub enum TableFault {
     CutOff(usize),
     TooMany(usize),
 }
 
-// What a file of so many bytes is.
-fn file_of(bytes: &[u8], room: usize) -> TableFile
+// How many rows a file of so many bytes has.
+#[tactic(auto, unfolding(crate::specs::Files::file_of))]
+fn file_of(bytes: &[u8], room: usize) -> Result<usize, TableFault>
     ensures { result ≡ file_of room bytes.now }
 {
     let whole = bytes.len() / 20;
     if room < whole {
-        return TableFile::TooMany(room * 20);
+        return Err(TableFault::TooMany(room * 20));
     }
     let rest = bytes.len() % 20;
     if rest != 0 {
-        return TableFile::CutOff(bytes.len() - rest);
+        return Err(TableFault::CutOff(bytes.len() - rest));
     }
-    TableFile::Rows(whole)
+    Ok(whole)
 }
 
 // The rows of `bytes` into the start of the slices.
@@ -46,19 +45,17 @@ fn decode_rows(bytes: &[u8], edges: &mut [u64], reverse: &mut [u32], area: &mut 
     );
 }
 
-// The table of a file's bytes into the start of the slices.
+// The table of a file's bytes into the start of the slices: how many rows it has.
 pub fn read_table(
     bytes: &[u8],
     edges: &mut [u64],
     reverse: &mut [u32],
     area: &mut [f64],
-) -> TableFile
+) -> Result<usize, TableFault>
     ensures { TableRead bytes.now (table edges.old reverse.old area.old) result (table edges.new reverse.new area.new) }
 {
-    let room = least(least(edges.len(), reverse.len()), area.len());
-    let file = file_of(bytes, room);
-    if (bytes.len() % 20 == 0) & (bytes.len() / 20 <= room) {
-        decode_rows(bytes, edges, reverse, area);
-    }
-    file
+    let room = edges.len().min(reverse.len()).min(area.len());
+    let rows = file_of(bytes, room)?;
+    decode_rows(bytes, edges, reverse, area);
+    Ok(rows)
 }

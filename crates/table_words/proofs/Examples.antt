@@ -7,9 +7,10 @@ use lib.Ieee.{Float, nan, of_bits, binary64}
 use Rattle.scope.specs.Lists.{all, member, from, first_bad}
 use Rattle.scope.specs.Cells.{valid_cell, is_pentagon, owner_of, valid_edge}
 use Rattle.scope.specs.Table.{Table, table, is_finite, ascends, paired, row_good, table_verdict}
+use Rattle.scope.specs.Answers.{refusal_number, refusal_index}
 use Rattle.edge_table.specs.Checks.{checked}
 use Rattle.text.specs.Text.{ascii, shown, numeral, numeral_in}
-use Rattle.table_words.specs.Faults.{row_fault, fault_of}
+use Rattle.table_words.specs.Faults.{whole_fault, row_fault, fault_of}
 use Rattle.table_words.specs.Words.{whole_words, row_words, fault_words, fault_place, fault_text, table_text}
 
 unfoldable line : Table → List ℕ
@@ -31,7 +32,7 @@ whole : map line (table [] [] [] ∷ table (fourth ∷ fourth ∷ []) [] [] ∷ 
     ∷ ascii "T: refused 10, its columns are of unequal lengths\n"
     ∷ ascii "T: refused 1, its edges are of unequal resolutions\n"
     ∷ []
-unfolding all member from first_bad valid_cell is_pentagon owner_of valid_edge is_finite ascends paired row_good table_verdict checked of_bits line rows table_text fault_of fault_text fault_place fault_words shown numeral numeral_in whole_words
+unfolding all member from first_bad valid_cell is_pentagon owner_of valid_edge is_finite ascends paired row_good table_verdict checked of_bits line rows table_text fault_of whole_fault row_fault refusal_number refusal_index fault_text fault_place fault_words shown numeral numeral_in whole_words
 whole = refl
 
 rows_told : map line (rows 0 1 0 nan ∷ rows 0x13001fffffffffff 1 0 nan ∷ rows fourth 2 0 nan ∷ rows fourth 0 1 nan ∷ rows fourth 1 1 nan ∷ rows fourth 1 0 nan ∷ []) ≡
@@ -42,7 +43,7 @@ rows_told : map line (rows 0 1 0 nan ∷ rows 0x13001fffffffffff 1 0 nan ∷ row
     ∷ ascii "T row 0, byte 0: refused 1, its reverse row does not name it back\n"
     ∷ ascii "T row 1, byte 20: refused 1, its area term is not finite\n"
     ∷ []
-unfolding all member from first_bad valid_cell is_pentagon owner_of valid_edge is_finite ascends paired row_good table_verdict checked of_bits line rows table_text fault_of fault_text fault_place fault_words shown numeral numeral_in row_fault row_words
+unfolding all member from first_bad valid_cell is_pentagon owner_of valid_edge is_finite ascends paired row_good table_verdict checked of_bits line rows table_text fault_of whole_fault row_fault refusal_number refusal_index fault_text fault_place fault_words shown numeral numeral_in row_words
 rows_told = refl
 
 -- a table that keeps the rules

@@ -4,8 +4,9 @@ use Prim.Native.Nat.{ℕ, ◌*◌}
 use mathlib.Core.Path.{◌≡◌, refl, ap, ◌∙◌}
 use mathlib.Core.Bool.{true}
 use mathlib.Core.List.{List, ◌++◌}
-use Rattle.scope.specs.declared.Verdict.{Verdict}
-use Rattle.scope.specs.declared.Verdict.TheVariants.{Refused}
+use Rattle.std.specs.Prelude.{Result, Ok, Err}
+use Rattle.scope.specs.declared.Refusal.{Refusal}
+use Rattle.scope.specs.Answers.{Verdict, refusal_number, refusal_index}
 use Rattle.scope.specs.Table.{Table}
 use Rattle.edge_table.specs.Checks.{checked}
 use Rattle.text.specs.Text.{ascii, shown, unbroken, one_line}
@@ -17,8 +18,9 @@ use Rattle.table_words.specs.declared.rules.RowFault.{RowFault}
 use Rattle.table_words.specs.declared.rules.RowFault.TheVariants as row
 use Rattle.table_words.specs.declared.rules.Fault.{Fault}
 use Rattle.table_words.specs.declared.rules.Fault.TheVariants as fault
-use Rattle.table_words.specs.Faults.{fault_of}
-use Rattle.table_words.specs.Words.{whole_words, row_words, fault_words, fault_place, fault_text, table_text}
+use Rattle.table_words.specs.Faults.{fault_of, Breaks}
+use Rattle.table_words.proofs.Broken.{fault_broken}
+use Rattle.table_words.specs.Words.{whole_words, row_words, fault_words, fault_place, fault_text, told_text, table_text}
 
 whole_unbroken : (f : WholeFault) → unbroken (whole_words f) ≡ true
 unfolding whole_words unbroken
@@ -35,7 +37,6 @@ row_unbroken row.PastEnd = refl
 row_unbroken row.Itself = refl
 row_unbroken row.NotBack = refl
 row_unbroken row.NotFinite = refl
-row_unbroken row.Sound = refl
 
 words_unbroken : (f : Fault) → unbroken (fault_words f) ≡ true
 unfolding fault_words
@@ -57,7 +58,14 @@ fault_line name number index f = line_behind (shown name ++ fault_place f index 
     (words_unbroken f))
     refl
 
+told_line : (t : Table) (i : ℕ) (name : List ℕ) (number : ℕ) (r : Result (Unit {0}) Fault) → Breaks t i r → one_line (told_text name number i r) ≡ true
+unfolding Breaks
+told_line t i name number (Err f) p = fault_line name number i f
+told_line t i name number (Ok sound) p = absurd p
+
 -- what `tell_table` writes where the table is refused
-pub table_line : (name : List ℕ) (t : Table) {number index : ℕ} → checked t ≡ Refused number index → one_line (table_text name t (checked t)) ≡ true
+pub table_line : (name : List ℕ) (t : Table) {why : Refusal} → checked t ≡ Err why → one_line (table_text name t (checked t)) ≡ true
 unfolding table_text
-table_line name t {number} {index} e = ap (λ (v : Verdict). one_line (table_text name t v)) e ∙ fault_line name number index (fault_of t index)
+table_line name t {why} e =
+    ap (λ (v : Verdict). one_line (table_text name t v)) e
+    ∙ told_line t (refusal_index why) name (refusal_number why) (fault_of t (refusal_index why)) (fault_broken t why e)

@@ -1,14 +1,11 @@
 -- A table's fault as one line, and what the check of a table tells.
 -- Assumes nothing.
-use Rattle.std.specs.Prelude.{ℕ, ◌*◌, ◌≡◌, List, [], ◌++◌}
-use Rattle.scope.specs.declared.Verdict.{Verdict}
-use Rattle.scope.specs.declared.Verdict.TheVariants.{Accepted, Refused}
-use Rattle.scope.specs.Answers.{is_accepted}
+use Rattle.std.specs.Prelude.{ℕ, ◌*◌, ◌≡◌, List, [], ◌++◌, Result, Ok, Err, is_ok}
+use Rattle.scope.specs.Answers.{Verdict, refusal_number, refusal_index, is_accepted}
 use Rattle.scope.specs.Table.{Table}
 use Rattle.edge_table.specs.Checks.{checked}
 use Rattle.text.specs.Text.{ascii, shown, Wrote}
 use Rattle.note_text.specs.Notes.{noted}
-use Rattle.table_words.specs.declared.Told.{Told}
 use Rattle.table_words.specs.declared.rules.WholeFault.{WholeFault}
 use Rattle.table_words.specs.declared.rules.WholeFault.TheVariants as whole
 use Rattle.table_words.specs.declared.rules.RowFault.{RowFault}
@@ -30,7 +27,6 @@ row_words row.PastEnd = ascii "its reverse row is past the end of the table"
 row_words row.Itself = ascii "its reverse row is the row itself"
 row_words row.NotBack = ascii "its reverse row does not name it back"
 row_words row.NotFinite = ascii "its area term is not finite"
-row_words row.Sound = ascii "this row breaks no rule"
 
 unfoldable pub fault_words : Fault → List ℕ
 fault_words (fault.Whole f) = whole_words f
@@ -44,12 +40,22 @@ fault_place (fault.Row f) index = noted (ascii " row ") index (ascii "") ++ note
 unfoldable pub fault_text : List ℕ → ℕ → ℕ → Fault → List ℕ
 fault_text name number index f = shown name ++ fault_place f index ++ noted (ascii "refused ") number (ascii ", ") ++ fault_words f ++ ascii "\n"
 
+-- nothing where no rule is broken
+abbrev pub told_text : List ℕ → ℕ → ℕ → Result (Unit {0}) Fault → List ℕ
+told_text name number index (Err f) = fault_text name number index f
+told_text name number index (Ok sound) = []
+
 -- nothing where the table keeps the rules
 unfoldable pub table_text : List ℕ → Table → Verdict → List ℕ
-table_text name t Accepted = []
-table_text name t (Refused number index) = fault_text name number index (fault_of t index)
+table_text name t (Ok done) = []
+table_text name t (Err why) = told_text name (refusal_number why) (refusal_index why) (fault_of t (refusal_index why))
+
+-- how long the line is
+abbrev pub told_size : Result (Unit {0}) ℕ → ℕ
+told_size (Ok passes) = 0
+told_size (Err size) = size
 
 -- The table's name, the table, the text before and after.
-pub record TableTold (name : List ℕ) (t : Table) (before after : List ℕ) (r : Told) : Type 0 where
-  pub text : Wrote before 0 after r.size (table_text name t (checked t))
-  pub passes : r.passes ≡ is_accepted (checked t)
+pub record TableTold (name : List ℕ) (t : Table) (before after : List ℕ) (r : Result (Unit {0}) ℕ) : Type 0 where
+  pub text : Wrote before 0 after (told_size r) (table_text name t (checked t))
+  pub passes : is_ok r ≡ is_accepted (checked t)

@@ -9,38 +9,22 @@ ghost use Rattle.table_words.specs.Words.{TableTold};
 
 use edge_table::check_table;
 use rules::fault_of;
-use scope::Verdict;
 use words::put_fault;
 
-// How long the text is, and whether the table keeps the rules.
-#[derive(Clone, Copy)]
-pub struct Told {
-    pub size: usize,
-    pub passes: bool,
-}
-
-// Checks the table of this name; where a rule is broken, the line stands at the front of the text.
+// Checks the table of this name; where a rule is broken, the line stands at the front of the text, and its length is answered.
 pub fn tell_table(
     text: &mut [u8],
     name: &[u8],
     edges: &[u64],
     reverse: &[u32],
     area: &[f64],
-) -> Told
+) -> Result<(), usize>
     ensures { TableTold name.now (table edges.now reverse.now area.now) text.old text.new result }
 {
-    let verdict = check_table(edges, reverse, area);
-    match verdict {
-        Verdict::Accepted => Told {
-            size: 0,
-            passes: true,
-        },
-        Verdict::Refused(number, row) => {
-            let fault = fault_of(edges, reverse, area, row);
-            Told {
-                size: put_fault(text, 0, name, number, row, fault),
-                passes: false,
-            }
-        }
-    }
+    let Err(refusal) = check_table(edges, reverse, area) else {
+        return Ok(());
+    };
+    let row = refusal.index();
+    let fault = fault_of(edges, reverse, area, row).unwrap_err();
+    Err(put_fault(text, 0, name, refusal.number(), row, fault))
 }

@@ -1,5 +1,5 @@
 // A table's fault as one line: the file, the row and its byte where a row has it, the refusal's number, and the rule in words.
-ghost use Rattle.std.specs.Prelude.{◌≤◌, length};
+ghost use Rattle.std.specs.Prelude.{◌≡◌, ◌≤◌, length};
 ghost use Rattle.text.specs.Text.{Wrote};
 ghost use Rattle.table_words.specs.Words.{whole_words, row_words, fault_words, fault_place, fault_text};
 
@@ -7,40 +7,45 @@ use crate::rules::{Fault, RowFault, WholeFault};
 use note_text::put_noted;
 use text::{put_bytes, put_shown};
 
-fn put_whole_words(out: &mut [u8], at: usize, fault: WholeFault) -> usize
-    requires { at ≤ length out.old }
-    ensures { Wrote out.old at out.new result (whole_words fault) }
-{
-    match fault {
-        WholeFault::Lengths => put_bytes(out, at, b"its columns are of unequal lengths"),
-        WholeFault::TooFew => put_bytes(out, at, b"the table has fewer than 2 rows"),
-        WholeFault::TooMany => put_bytes(out, at, b"the table has more than 65536 rows"),
-        WholeFault::Resolutions => put_bytes(out, at, b"its edges are of unequal resolutions"),
+impl WholeFault {
+    #[tactic(auto, unfolding(crate::specs::Words::whole_words))]
+    fn words(self) -> &'static [u8]
+        ensures { result.now ≡ whole_words self }
+    {
+        match self {
+            WholeFault::Lengths => b"its columns are of unequal lengths",
+            WholeFault::TooFew => b"the table has fewer than 2 rows",
+            WholeFault::TooMany => b"the table has more than 65536 rows",
+            WholeFault::Resolutions => b"its edges are of unequal resolutions",
+        }
     }
 }
 
-fn put_row_words(out: &mut [u8], at: usize, fault: RowFault) -> usize
-    requires { at ≤ length out.old }
-    ensures { Wrote out.old at out.new result (row_words fault) }
-{
-    match fault {
-        RowFault::NoEdge => put_bytes(out, at, b"this row is no valid edge"),
-        RowFault::NotAbove => put_bytes(out, at, b"this row is not above the one before it"),
-        RowFault::PastEnd => put_bytes(out, at, b"its reverse row is past the end of the table"),
-        RowFault::Itself => put_bytes(out, at, b"its reverse row is the row itself"),
-        RowFault::NotBack => put_bytes(out, at, b"its reverse row does not name it back"),
-        RowFault::NotFinite => put_bytes(out, at, b"its area term is not finite"),
-        RowFault::Sound => put_bytes(out, at, b"this row breaks no rule"),
+impl RowFault {
+    #[tactic(auto, unfolding(crate::specs::Words::row_words))]
+    fn words(self) -> &'static [u8]
+        ensures { result.now ≡ row_words self }
+    {
+        match self {
+            RowFault::NoEdge => b"this row is no valid edge",
+            RowFault::NotAbove => b"this row is not above the one before it",
+            RowFault::PastEnd => b"its reverse row is past the end of the table",
+            RowFault::Itself => b"its reverse row is the row itself",
+            RowFault::NotBack => b"its reverse row does not name it back",
+            RowFault::NotFinite => b"its area term is not finite",
+        }
     }
 }
 
-fn put_words(out: &mut [u8], at: usize, fault: Fault) -> usize
-    requires { at ≤ length out.old }
-    ensures { Wrote out.old at out.new result (fault_words fault) }
-{
-    match fault {
-        Fault::Whole(whole) => put_whole_words(out, at, whole),
-        Fault::Row(row) => put_row_words(out, at, row),
+impl Fault {
+    #[tactic(auto, unfolding(crate::specs::Words::fault_words))]
+    fn words(self) -> &'static [u8]
+        ensures { result.now ≡ fault_words self }
+    {
+        match self {
+            Fault::Whole(whole) => whole.words(),
+            Fault::Row(row) => row.words(),
+        }
     }
 }
 
@@ -72,6 +77,6 @@ pub(crate) fn put_fault(
     let named = put_shown(out, at, name);
     let placed = put_place(out, named, fault, row);
     let numbered = put_noted(out, placed, b"refused ", number, b", ");
-    let worded = put_words(out, numbered, fault);
+    let worded = put_bytes(out, numbered, fault.words());
     put_bytes(out, worded, b"\n")
 }

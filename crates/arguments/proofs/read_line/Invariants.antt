@@ -1,11 +1,7 @@
 -- The loop of `arguments::read_line`. The line is what the words so far come to.
 -- Assumes nothing.
-use Prim.Native.Nat.{◌-◌}
 use Rattle.arguments.proofs.Words.{Read}
 use Rattle.arguments.proofs.read_line.Given as goal
 
 abbrev pub invariant-loop-k : goal.invariant-loop-k
 invariant-loop-k g l = Read l.tool l.line l.k
-
-abbrev pub decreases-loop-k : goal.decreases-loop-k
-decreases-loop-k g l = l.count - l.k

@@ -7,4 +7,4 @@ pub returns-then-line : goal.returns-then-line
 returns-then-line c = says_help _ _ _ c.if-line.true c.put_help.ensures
 
 pub returns : goal.returns
-returns c = says_complaint _ _ _ c.if-line.false c.status-status.ensures c.put_complaint.ensures
+returns c = says_complaint _ _ _ c.if-line.false c.status.ensures c.put_complaint.ensures

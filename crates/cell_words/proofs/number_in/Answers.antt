@@ -4,14 +4,14 @@ use native.Mathlib.Omega.{arith}
 use Rattle.cell_words.proofs.Numbers.{reads_none, reads_next, room}
 use Rattle.cell_words.proofs.number_in.Goals as goal
 
-pub loop-i-init : goal.loop-i-init
-loop-i-init c = reads_none _
+pub loop-b-init : goal.loop-b-init
+loop-b-init c = reads_none _
 
 pub overflow_mul-number : goal.overflow_mul-number
-overflow_mul-number c = omega (arith, room c.loop-i.invariant (omega arith))
+overflow_mul-number c = omega (arith, room c.loop-b.invariant (omega arith))
 
 pub overflow_add-number : goal.overflow_add-number
-overflow_add-number c = omega (arith, room c.loop-i.invariant (omega arith))
+overflow_add-number c = omega (arith, room c.loop-b.invariant (omega arith))
 
-pub loop-i-preserved : goal.loop-i-preserved
-loop-i-preserved c = reads_next c.loop-i.invariant c.loop-i-test.true _ c.worth_of.ensures
+pub loop-b-preserved : goal.loop-b-preserved
+loop-b-preserved c = reads_next c.loop-b.invariant (omega arith) _ (c.worth_of.ensures.worth, c.worth_of.ensures.digit)

@@ -1,10 +1,9 @@
--- `read_digits` meets its contract.
+-- `read_digits` meets its contract. Where the digits run to the end, each byte is one.
 -- Assumes nothing.
-use Rattle.cell_words.proofs.Pieces.{digits_cell, digits_fault}
+use borrow.Author.Tests.{eqb-true}
+use Rattle.scope.proofs.Tests.{and_left}
+use Rattle.cell_words.proofs.Digits.{all_digits}
 use Rattle.cell_words.proofs.read_digits.Goals as goal
 
-pub returns-then-n-digits : goal.returns-then-n-digits
-returns-then-n-digits c = digits_cell _ _ c.leading-n.ensures.0 c.if-n-digits.true c.number_in.ensures
-
-pub returns : goal.returns
-returns c = digits_fault _ _ c.leading-n.ensures.0 c.if-n-digits.false c.sound_in.ensures.0
+pub number_in-requires-clause-all : goal.number_in-requires-clause-all
+number_in-requires-clause-all c = all_digits _ c.digits_before-n.ensures.count (eqb-true _ _ (and_left _ _ (and_left _ _ c.if-n-digits.true)))

@@ -6,4 +6,4 @@ use Rattle.refusal_text.proofs.put_refusal.Goals as goal
 
 pub returns : goal.returns
 unfolding refusal_text
-returns c = wrote_more (wrote_more (wrote_more c.put_place-placed.ensures c.put_noted-numbered.ensures) c.put_reason-worded.ensures) c.put_bytes.ensures
+returns c = wrote_more (wrote_more (wrote_more c.put_place-placed.ensures (rw c.number.ensures at c.put_noted-numbered.ensures)) (rw c.reason_of.ensures at c.put_bytes-worded.ensures)) c.put_bytes.ensures

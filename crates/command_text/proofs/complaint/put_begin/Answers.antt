@@ -4,4 +4,4 @@ use Rattle.text.proofs.Writing.{wrote_more}
 use Rattle.command_text.proofs.complaint.put_begin.Goals as goal
 
 pub returns : goal.returns
-returns c = wrote_more c.put_tool-named.ensures c.put_bytes.ensures
+returns c = wrote_more (rw c.name_of.ensures at c.put_bytes-named.ensures) c.put_bytes.ensures

@@ -6,4 +6,4 @@ use Rattle.command_text.proofs.help.put_help.Goals as goal
 
 pub returns : goal.returns
 unfolding help_text
-returns c = wrote_more (wrote_more (wrote_more c.put_use-told.ensures c.put_bytes-tabled.ensures) c.put_list-listed.ensures) c.put_bytes.ensures
+returns c = wrote_more (wrote_more (wrote_more (rw c.use_of.ensures at c.put_bytes-told.ensures) c.put_bytes-tabled.ensures) (rw c.list_of.ensures at c.put_bytes-listed.ensures)) c.put_bytes.ensures

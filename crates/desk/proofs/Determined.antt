@@ -6,12 +6,12 @@
 use Prim.Native.Nat.{ℕ}
 use mathlib.Core.Path.{◌≡◌, sym, ◌∙◌, ap}
 use mathlib.Core.List.{List}
+use Rattle.std.specs.Result.{result_ok}
+use Rattle.std.specs.Prelude.{Result, Ok, Err}
 use Rattle.scope.specs.Table.{Table}
-use Rattle.desk.specs.declared.Loaded.{Loaded}
-use Rattle.files.specs.declared.FileRead.{FileRead}
-use Rattle.desk.specs.declared.Taken.{Taken}
-use Rattle.desk.specs.Loads.{Came, TableLoad, table_loaded, LoadsTable, CellLoad, list_loaded, LoadsCells}
-use Rattle.desk.specs.Taking.{TakesTable, TakesCells}
+use Rattle.files.specs.declared.FileError.{FileError}
+use Rattle.desk.specs.Loads.{Loaded, count_of, Came, TableLoad, table_loaded, LoadsTable, CellLoad, list_loaded, LoadsCells}
+use Rattle.desk.specs.Taking.{Taken, complaint_of, TakesTable, TakesCells}
 use Rattle.desk.specs.Tables.{sound_of, LoadsSound}
 
 pub table_loaded_one : {text text₂ : List ℕ} {t t' t'' : Table} {r r₂ : Loaded} (A : LoadsTable text t r t') (B : LoadsTable text₂ t r₂ t'')
@@ -33,10 +33,13 @@ cells_loaded_one {cells = cells} {lines} A B e =
     let same = A.loads ∙ ap (λ (c : Came). list_loaded c cells lines) e ∙ sym B.loads in
     (ap (λ (x : CellLoad). x.answer) same, ap (λ (x : CellLoad). x.cells) same, ap (λ (x : CellLoad). x.lines) same)
 
-same_taken : (r r₂ : Taken) → r.loaded ≡ r₂.loaded → r.complaint ≡ r₂.complaint → r ≡ r₂
-same_taken r r₂ e f = ap (λ (l : Loaded). record { loaded = l; complaint = r.complaint }) e ∙ ap (λ (n : ℕ). record { loaded = r₂.loaded; complaint = n }) f
+same_taken : (r r₂ : Taken) → result_ok r ≡ result_ok r₂ → complaint_of r ≡ complaint_of r₂ → r ≡ r₂
+same_taken (Ok n) (Ok m) e f = ap (λ (l : Loaded). Ok (count_of l)) e
+same_taken (Ok n) (Err m) e f = cc
+same_taken (Err n) (Ok m) e f = cc
+same_taken (Err n) (Err m) e f = ap Err f
 
-pub table_taken_one : (read : FileRead) (text path : List ℕ) (t : Table) (line : List ℕ) {line' line'' : List ℕ} {r r₂ : Taken} {t' t'' : Table}
+pub table_taken_one : (read : Result ℕ FileError) (text path : List ℕ) (t : Table) (line : List ℕ) {line' line'' : List ℕ} {r r₂ : Taken} {t' t'' : Table}
     → TakesTable read text path t line line' r t' → TakesTable read text path t line line'' r₂ t'' → (line' ≡ line'') × (r ≡ r₂) × (t' ≡ t'')
 table_taken_one read text path t line {r = r} {r₂} A B =
     let same = A.loads ∙ sym B.loads in (
@@ -45,7 +48,7 @@ table_taken_one read text path t line {r = r} {r₂} A B =
       ap (λ (x : TableLoad). x.left) same,
     )
 
-pub cells_taken_one : (read : FileRead) (text path cells lines line : List ℕ) {line' line'' : List ℕ} {r r₂ : Taken} {cells' cells'' lines' lines'' : List ℕ}
+pub cells_taken_one : (read : Result ℕ FileError) (text path cells lines line : List ℕ) {line' line'' : List ℕ} {r r₂ : Taken} {cells' cells'' lines' lines'' : List ℕ}
     → TakesCells read text path cells lines line line' r cells' lines' → TakesCells read text path cells lines line line'' r₂ cells'' lines''
     → (line' ≡ line'') × (r ≡ r₂) × (cells' ≡ cells'') × (lines' ≡ lines'')
 cells_taken_one read text path cells lines line {r = r} {r₂} A B =

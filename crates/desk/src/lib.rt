@@ -10,40 +10,19 @@ pub mod words;
 ghost use Rattle.std.specs.Prelude.{◌≡◌, ◌≤◌, length};
 ghost use Rattle.scope.specs.Table.{table};
 ghost use Rattle.files.specs.Files.{count_of as bytesRead};
-ghost use Rattle.desk.specs.Loads.{rows_loaded, cells_loaded, LoadsTable, LoadsCells};
+ghost use Rattle.desk.specs.Loads.{count_of, LoadsTable, LoadsCells};
 ghost use Rattle.desk.specs.Taking.{TakesRows, TakesTable, TakesList, TakesCells};
 
-use cell_text::{Ending, read_cells};
-use files::{FileRead, read_file};
-use report::faults::{put_list_fault, put_table_fault, put_too_long, put_unreadable};
-use reports::{Report, in_room};
+use cell_text::read_cells;
+use files::{FileError, read_file};
+use report::faults::{put_file_error, put_list_fault, put_table_fault};
+use reports::in_room;
 use std::rt::Files;
-use table_bytes::{TableFile, read_table};
+use table_bytes::read_table;
 use words::say_report;
 
-// How many rows or cells were loaded.
-#[derive(Clone, Copy)]
-pub enum Loaded {
-    Count(usize),
-    Nothing,
-}
-
-// What was loaded, and how many bytes the complaint has: none where there is none.
-#[derive(Clone, Copy)]
-pub struct Taken {
-    pub loaded: Loaded,
-    pub complaint: usize,
-}
-
-fn rows_loaded(file: TableFile) -> Loaded
-    ensures { result ≡ rows_loaded file }
-{
-    match file {
-        TableFile::Rows(rows) => Loaded::Count(rows),
-        TableFile::CutOff(_) => Loaded::Nothing,
-        TableFile::TooMany(_) => Loaded::Nothing,
-    }
-}
+// How many rows or cells were taken; or how many bytes the complaint has that says why none were.
+pub type Taken = Result<usize, usize>;
 
 // The rows of the bytes that came from the file at `path`.
 fn take_rows(
@@ -56,16 +35,15 @@ fn take_rows(
 ) -> Taken
     ensures { TakesRows bytes.now path.now (table edges.old reverse.old area.old) line.old line.new result (table edges.new reverse.new area.new) }
 {
-    let file = read_table(bytes, edges, reverse, area);
-    Taken {
-        loaded: rows_loaded(file),
-        complaint: put_table_fault(line, 0, path, edges.len(), file),
+    match read_table(bytes, edges, reverse, area) {
+        Ok(rows) => Ok(rows),
+        Err(fault) => Err(put_table_fault(line, 0, path, edges.len(), fault)),
     }
 }
 
 // The table that came of reading the file at `path` into `text`: its rows into the start of the slices, or a complaint into `line`.
 pub fn take_table(
-    read: FileRead,
+    read: Result<usize, FileError>,
     path: &[u8],
     line: &mut [u8],
     text: &[u8],
@@ -77,21 +55,14 @@ pub fn take_table(
     ensures { TakesTable read text.now path.now (table edges.old reverse.old area.old) line.old line.new result (table edges.new reverse.new area.new) }
 {
     match read {
-        FileRead::Bytes(size) => take_rows(path, line, &text[..size], edges, reverse, area),
-        FileRead::Unreadable(reason) => Taken {
-            loaded: Loaded::Nothing,
-            complaint: put_unreadable(line, 0, path, reason),
-        },
-        FileRead::TooLong => Taken {
-            loaded: Loaded::Nothing,
-            complaint: put_too_long(line, 0, path, text.len()),
-        },
+        Ok(size) => take_rows(path, line, &text[..size], edges, reverse, area),
+        Err(error) => Err(put_file_error(line, 0, path, text.len(), error)),
     }
 }
 
-// One line on the file at `path`, where there is one.
+// Says why the file at `path` is not taken.
 fn complain(line: &mut [u8], size: usize, path: &[u8]) {
-    let report = in_room(line, Report { size, done: false }, path);
+    let report = in_room(line, Err(size), path);
     say_report(line, report);
 }
 
@@ -104,23 +75,18 @@ pub fn load_table<R: Files>(
     edges: &mut [u64],
     reverse: &mut [u32],
     area: &mut [f64],
-) -> Loaded
-    ensures { LoadsTable text.new (table edges.old reverse.old area.old) result (table edges.new reverse.new area.new) }
+) -> Option<usize>
+    ensures loads { LoadsTable text.new (table edges.old reverse.old area.old) result (table edges.new reverse.new area.new) }
+    ensures fits { (count_of result ≤ length edges.old) × (count_of result ≤ length reverse.old) × (count_of result ≤ length area.old) }
 {
     let mut line = io::large_buffer();
     let read = read_file(rt, path, text);
-    let taken = take_table(read, path, &mut line, text, edges, reverse, area);
-    complain(&mut line, taken.complaint, path);
-    taken.loaded
-}
-
-fn cells_loaded(ending: Ending, count: usize) -> Loaded
-    ensures { result ≡ cells_loaded ending count }
-{
-    match ending {
-        Ending::Whole => Loaded::Count(count),
-        Ending::Fault(_, _) => Loaded::Nothing,
-        Ending::TooMany(_) => Loaded::Nothing,
+    match take_table(read, path, &mut line, text, edges, reverse, area) {
+        Ok(rows) => Some(rows),
+        Err(size) => {
+            complain(&mut line, size, path);
+            None
+        }
     }
 }
 
@@ -134,18 +100,16 @@ fn take_list(
 ) -> Taken
     ensures { TakesList bytes.now path.now cells.old lines.old line.old line.new result cells.new lines.new }
 {
-    let listed = read_cells(bytes, cells, lines);
-    let ending = listed.ending;
-    Taken {
-        loaded: cells_loaded(ending, listed.count),
-        complaint: put_list_fault(line, 0, path, cells.len(), ending),
+    match read_cells(bytes, cells, lines) {
+        Ok(count) => Ok(count),
+        Err(stopped) => Err(put_list_fault(line, 0, path, cells.len(), stopped.fault)),
     }
 }
 
 // The list that came of reading the file at `path` into `text`: its cells and their lines into the start of the slices, or a complaint
 // into `line`.
 pub fn take_cells(
-    read: FileRead,
+    read: Result<usize, FileError>,
     path: &[u8],
     line: &mut [u8],
     text: &[u8],
@@ -156,15 +120,8 @@ pub fn take_cells(
     ensures { TakesCells read text.now path.now cells.old lines.old line.old line.new result cells.new lines.new }
 {
     match read {
-        FileRead::Bytes(size) => take_list(path, line, &text[..size], cells, lines),
-        FileRead::Unreadable(reason) => Taken {
-            loaded: Loaded::Nothing,
-            complaint: put_unreadable(line, 0, path, reason),
-        },
-        FileRead::TooLong => Taken {
-            loaded: Loaded::Nothing,
-            complaint: put_too_long(line, 0, path, text.len()),
-        },
+        Ok(size) => take_list(path, line, &text[..size], cells, lines),
+        Err(error) => Err(put_file_error(line, 0, path, text.len(), error)),
     }
 }
 
@@ -175,12 +132,17 @@ pub fn load_cells<R: Files>(
     text: &mut [u8],
     cells: &mut [u64],
     lines: &mut [usize],
-) -> Loaded
-    ensures { LoadsCells text.new cells.old lines.old result cells.new lines.new }
+) -> Option<usize>
+    ensures loads { LoadsCells text.new cells.old lines.old result cells.new lines.new }
+    ensures fits { (count_of result ≤ length cells.old) × (count_of result ≤ length lines.old) }
 {
     let mut line = io::large_buffer();
     let read = read_file(rt, path, text);
-    let taken = take_cells(read, path, &mut line, text, cells, lines);
-    complain(&mut line, taken.complaint, path);
-    taken.loaded
+    match take_cells(read, path, &mut line, text, cells, lines) {
+        Ok(count) => Some(count),
+        Err(size) => {
+            complain(&mut line, size, path);
+            None
+        }
+    }
 }

@@ -1,14 +1,15 @@
 // Tables that keep the rules: a table's check as a report, and a load that goes on where the table passes it.
-ghost use Rattle.std.specs.Prelude.{◌≡◌};
+ghost use Rattle.std.specs.Prelude.{◌≡◌, ◌≤◌, length};
 ghost use Rattle.scope.specs.Answers.{is_accepted};
 ghost use Rattle.scope.specs.Table.{table};
 ghost use Rattle.edge_table.specs.Checks.{checked};
+ghost use Rattle.desk.specs.Loads.{count_of};
 ghost use Rattle.desk.specs.Reports.{Page};
 ghost use Rattle.desk.specs.Tables.{table_in, LoadsSound};
 
+use crate::load_table;
 use crate::reports::{Report, in_room};
 use crate::words::say_report;
-use crate::{Loaded, load_table};
 use std::rt::Files;
 use table_words::tell_table;
 
@@ -23,11 +24,7 @@ pub fn report_table(
     ensures { record { text = text.new; report = result } ≡ table_in text.old name.now (table edges.now reverse.now area.now) }
 {
     let told = tell_table(text, name, edges, reverse, area);
-    let report = Report {
-        size: told.size,
-        done: told.passes,
-    };
-    in_room(text, report, name)
+    in_room(text, told.map(|_| 0), name)
 }
 
 // The same, said.
@@ -37,7 +34,7 @@ fn is_sound(name: &[u8], edges: &[u64], reverse: &[u32], area: &[f64]) -> bool
     let mut line = io::large_buffer();
     let report = report_table(&mut line, name, edges, reverse, area);
     say_report(&line, report);
-    report.done
+    report.is_ok()
 }
 
 // Loads the table at `path` as `load_table` does, but none that breaks a rule: over such a table no zone can be dissolved.
@@ -48,14 +45,10 @@ pub fn load_sound_table<R: Files>(
     edges: &mut [u64],
     reverse: &mut [u32],
     area: &mut [f64],
-) -> Loaded
-    ensures { LoadsSound text.new (table edges.old reverse.old area.old) result (table edges.new reverse.new area.new) }
+) -> Option<usize>
+    ensures loads { LoadsSound text.new (table edges.old reverse.old area.old) result (table edges.new reverse.new area.new) }
+    ensures fits { (count_of result ≤ length edges.old) × (count_of result ≤ length reverse.old) × (count_of result ≤ length area.old) }
 {
-    let Loaded::Count(rows) = load_table(rt, path, text, edges, reverse, area) else {
-        return Loaded::Nothing;
-    };
-    if is_sound(path, &edges[..rows], &reverse[..rows], &area[..rows]) {
-        return Loaded::Count(rows);
-    }
-    Loaded::Nothing
+    let rows = load_table(rt, path, text, edges, reverse, area)?;
+    is_sound(path, &edges[..rows], &reverse[..rows], &area[..rows]).then_some(rows)
 }

@@ -1,6 +1,7 @@
 // Words of a program: answers to standard output; what is wrong with an argument or a file, and refusals, to standard error, a line each.
 // Nothing is put together here: what is printed is a text that another function has by promise.
 ghost use Rattle.std.specs.Prelude.{◌≤◌, length};
+ghost use Rattle.desk.specs.Reports.{size_of};
 
 use crate::reports::Report;
 
@@ -20,12 +21,10 @@ fn write(fd: i32, words: &[u8]) {
 
 // The report at the front of a text.
 pub fn say_report(text: &[u8], report: Report)
-    requires { report.size ≤ length text.now }
+    requires { size_of report ≤ length text.now }
 {
-    let words = &text[..report.size];
-    if report.done {
-        write(STDOUT_FILENO, words);
-    } else {
-        write(STDERR_FILENO, words);
+    match report {
+        Ok(size) => write(STDOUT_FILENO, &text[..size]),
+        Err(size) => write(STDERR_FILENO, &text[..size]),
     }
 }

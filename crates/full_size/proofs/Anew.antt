@@ -1,29 +1,26 @@
 -- What dissolve answers and writes out is the same in all memories of the same sizes, whatever they hold.
 --     same_lengths      their lengths fit a table, or do not
 --     dissolve_anew     that law
---     Full, full_sized, drawn_full     in memory of full size, from the lengths of its slices
---     lent_rows         of an array of 65,536 as many are lent as the table has rows
+--     Full, full_sized     memory is of full size, by the lengths of its slices
+--     lent_full, drawn_full     in full memory itself, dissolve is what the contract says
 -- Assumes nothing.
-use Prim.Native.Nat.{ℕ, ◌≤◌, min}
+use Prim.Native.Nat.{ℕ, min}
 use mathlib.Core.Path.{◌≡◌, refl, sym, ◌∙◌, ap}
 use mathlib.Core.List.{List}
-use native.Mathlib.Omega.{arith}
-use lib.ListN.{length, take, replicate, length-replicate}
-use lib.Seq.{length-take-le}
-use Rattle.scope.specs.declared.Verdict.{Verdict}
-use Rattle.scope.specs.declared.Verdict.TheVariants.{Accepted, Refused}
-use Rattle.scope.specs.declared.ReadOut.{ReadOut}
-use Rattle.scope.specs.Answers.{◌▷◌}
+use lib.ListN.{length, replicate, length-replicate}
+use Rattle.std.specs.Prelude.{Err, Ok}
+use Rattle.scope.specs.Answers.{Verdict}
 use Rattle.scope.specs.Table.{Table, row_count}
-use Rattle.scope.specs.Memory.{Memory, Output, memory, opened, lengths_fit}
-use Rattle.scope.specs.Calls.{Reading, reading, open_verdict, dissolve_verdict, offering_all, read_from, working, dissolving}
+use Rattle.scope.specs.Memory.{Memory, Output, lengths_fit}
+use Rattle.scope.specs.Calls.{Reading, reading, open_verdict, dissolve_verdict, working, dissolving}
 use Rattle.scope.specs.Bytes.{cleared}
+use Rattle.lent.specs.declared.arrays.Sizes.{Sizes}
 use Rattle.taking.proofs.Sizes.{Sized, opened_same}
-use Rattle.full_size.specs.Drawing.{Drawn, drawn, full_memory, drawing}
+use Rattle.full_size.specs.Drawing.{drawn, full_memory, drawing}
 
 drawn_reading : (v : Verdict) (d : Reading) (m₀ m : Memory) (o : Output) → drawn (reading v d m o) ≡ drawn (reading v d m₀ o)
-drawn_reading Accepted d m₀ m o = refl
-drawn_reading (Refused number index) d m₀ m o = refl
+drawn_reading (Ok done) d m₀ m o = refl
+drawn_reading (Err why) d m₀ m o = refl
 
 pub same_lengths : (t : Table) {m₀ m : Memory} → Sized m₀ m → lengths_fit t m ≡ lengths_fit t m₀
 unfolding lengths_fit
@@ -93,11 +90,11 @@ full_sized t m f = record {
   row_mark = as_long (min (row_count t) 65536) m.row_mark f.row_mark;
 }
 
--- the first rows of an array, as many as the table has
-pub lent_rows : (rows n : ℕ) (l : List ℕ) → (n ≡ min rows 65536) × (n ≤ 65536) → 65536 ≡ length l → min rows 65536 ≡ length (take n l)
-lent_rows rows n l h e = sym h.0 ∙ sym (length-take-le n l (omega (arith, h.1, e)))
+-- ---- in full memory itself
 
-pub drawn_full : (t : Table) (m : Memory) (mode : ℕ) (cs : List ℕ) (o : Output) {answer : ReadOut} {left : Memory} {out : Output}
-    → record { answer = answer; left = left; out = out } ≡ dissolving t m mode cs o → Full t m → record { answer = answer; out = out } ≡ drawing t mode cs o
+pub lent_full : (t : Table) {m : Memory} {s : Sizes} → m ≡ cleared s.rows s.slots s.places → s ≡ record { rows = min (row_count t) 65536; slots = 65536; places = 16384 } → m ≡ full_memory t
+lent_full t e f = e ∙ ap (λ (k : Sizes). cleared k.rows k.slots k.places) f
+
+pub drawn_full : (t : Table) (mode : ℕ) (cs : List ℕ) (o : Output) {m : Memory} {d : Reading} → m ≡ full_memory t → d ≡ dissolving t m mode cs o → drawn d ≡ drawing t mode cs o
 unfolding drawing
-drawn_full t m mode cs o e f = ap (λ (d : Reading). drawn d) e ∙ dissolve_anew t mode cs o (full_sized t m f)
+drawn_full t mode cs o f e = ap (λ (k : Reading). drawn k) e ∙ ap (λ (k : Memory). drawn (dissolving t k mode cs o)) f

@@ -2,7 +2,7 @@
 -- writes out does not depend on what the memory held, which is taken as cleared; what it leaves there is not told.
 -- Assumes nothing.
 use Rattle.std.specs.Prelude.{ℕ, min, List}
-use Rattle.scope.specs.declared.ReadOut.{ReadOut}
+use Rattle.scope.specs.Answers.{Answer}
 use Rattle.scope.specs.Table.{Table, row_count}
 use Rattle.scope.specs.Memory.{Memory, Output}
 use Rattle.scope.specs.Calls.{Reading, dissolving}
@@ -10,7 +10,7 @@ use Rattle.scope.specs.Bytes.{cleared}
 
 -- the answer and the outputs
 pub record Drawn : Type 0 where
-  pub answer : ReadOut
+  pub answer : Answer
   pub out : Output
 
 abbrev pub drawn : Reading → Drawn

@@ -1,71 +1,44 @@
 // Dissolve in memory of full size: 65,536 slots, 16,384 places, and as many rows as the table has. The tools lend the outputs alone.
 #![tactic(auto)]
 
-ghost use Rattle.std.specs.Prelude.{◌≡◌, ◌≤◌, min};
-ghost use Rattle.scope.specs.Table.{table};
-ghost use Rattle.scope.specs.Memory.{output};
-ghost use Rattle.full_size.specs.Drawing.{Drawn, drawing};
+ghost use Rattle.std.specs.Prelude.{◌≡◌, min, length};
+ghost use Rattle.lent.specs.Lent.{table_of, output_of, SameOutput};
+ghost use Rattle.full_size.specs.Drawing.{drawing};
 
-use desk::arrays::{place_numbers, place_words, row_numbers, slot_numbers};
-use scope::ReadOut;
+use lent::arrays::{Sizes, StateArrays};
+use lent::{Output, Table};
+use scope::{ReadOut, Refusal};
 use solvent::dissolve;
 
+pub const ROWS: usize = 65536;
+
+pub const SLOTS: usize = 65536;
+
+pub const PLACES: usize = 16384;
+
 // A table has no more rows than these; a longer one is refused by its lengths.
-pub fn rows_lent(rows: usize) -> usize
-    ensures { (result ≡ min rows 65536) × (result ≤ 65536) }
+pub fn sizes_for(table: &Table<'_>) -> Sizes
+    ensures { result ≡ record { rows = min (length table.now.edges.now) 65536; slots = 65536; places = 16384 } }
 {
-    if rows < 65536 { rows } else { 65536 }
+    Sizes {
+        rows: table.edges.len().min(ROWS),
+        slots: SLOTS,
+        places: PLACES,
+    }
 }
 
 // Dissolves a list of cells.
 pub fn dissolve_list(
-    edges: &[u64],
-    reverse: &[u32],
-    area: &[f64],
+    table: &Table<'_>,
     list: &[u64],
-    start: &mut [u32],
-    size: &mut [u32],
-    group: &mut [u32],
-    ring_area: &mut [f64],
-    ring_edges: &mut [u32],
+    output: &mut Output<'_>,
     mode: usize,
-) -> ReadOut
-    ensures { record { answer = result; out = output start.new size.new group.new ring_area.new ring_edges.new }
-        ≡ drawing (table edges.now reverse.now area.now) mode list.now (output start.old size.old group.old ring_area.old ring_edges.old) }
+) -> Result<ReadOut, Refusal>
+    ensures same_output { SameOutput output.old output.new }
+    ensures draws { record { answer = result; out = output_of output.new }
+        ≡ drawing (table_of table.now) mode list.now (output_of output.old) }
 {
-    let rows = rows_lent(edges.len());
-    let mut head = [0u32; 2];
-    let mut cells = place_words();
-    let mut parent = place_numbers();
-    let mut rank = place_numbers();
-    let mut cell_mark = place_numbers();
-    let mut slot_row = slot_numbers();
-    let mut slot_cell = slot_numbers();
-    let mut prev = slot_numbers();
-    let mut next = slot_numbers();
-    let mut row_slot = row_numbers();
-    let mut row_mark = row_numbers();
-    dissolve(
-        edges,
-        reverse,
-        area,
-        &mut head,
-        &mut cells,
-        &mut parent,
-        &mut rank,
-        &mut cell_mark,
-        &mut slot_row,
-        &mut slot_cell,
-        &mut prev,
-        &mut next,
-        &mut row_slot[..rows],
-        &mut row_mark[..rows],
-        list,
-        start,
-        size,
-        group,
-        ring_area,
-        ring_edges,
-        mode,
-    )
+    let mut arrays = StateArrays::<ROWS, SLOTS, PLACES>::new();
+    let (mut memory, mut marks) = arrays.lend(sizes_for(table));
+    dissolve(table, &mut memory, &mut marks, list, output, mode)
 }

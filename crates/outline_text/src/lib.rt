@@ -7,29 +7,23 @@ ghost use Rattle.scope.specs.Lists.{at};
 ghost use Rattle.text.specs.Text.{Wrote};
 ghost use Rattle.outline_text.specs.Outlines.{edge_name, edge_text, edges_text, begins as beginsAt, heading_text, ring_text, rings_text, standing as standingOf, summary_text};
 
+use lent::Drawn;
 use note_text::{put_area, put_noted};
 use slices::at32;
-use text::{put, put_bytes, put_numeral};
+use text::{put_bytes, put_numeral};
 
-// The edge number at a row, 0 past the end.
-pub fn edge_at(edges: &[u64], row: usize) -> u64
-    ensures { result ≡ at edges.now row }
+// What a slice holds at place `i`, and `otherwise` past its end.
+pub fn at_or<T: Copy>(items: &[T], i: usize, otherwise: T) -> T
+    ensures { result ≡ get_or items.now i otherwise }
 {
-    if row < edges.len() { edges[row] } else { 0 }
-}
-
-// The line of a cell, 0 past the end.
-pub fn line_at(lines: &[usize], index: usize) -> usize
-    ensures { result ≡ at lines.now index }
-{
-    if index < lines.len() { lines[index] } else { 0 }
+    items.get(i).copied().unwrap_or(otherwise)
 }
 
 // The area of a ring, NaN past the end.
 pub fn area_at(area: &[f64], i: usize) -> f64
     ensures { result ≡ get_or area.now i nan }
 {
-    if i < area.len() { area[i] } else { 0.0 / 0.0 }
+    at_or(area, i, f64::NAN)
 }
 
 // An edge by its number, or by its row.
@@ -38,9 +32,10 @@ fn put_edge_name(out: &mut [u8], at: usize, edges: &[u64], rows: bool, row: usiz
     ensures { Wrote out.old at out.new result (edge_name edges.now rows row) }
 {
     if rows {
-        return put_numeral(out, at, row as u64, 10, 1);
+        put_numeral(out, at, row as u64, 10, 1)
+    } else {
+        put_numeral(out, at, at_or(edges, row, 0), 16, 16)
     }
-    put_numeral(out, at, edge_at(edges, row), 16, 16)
 }
 
 fn put_edge(out: &mut [u8], at: usize, edges: &[u64], rows: bool, row: usize) -> usize
@@ -66,10 +61,8 @@ fn put_edges(
     ensures { Wrote out.old at out.new result (edges_text edges.now rows list.now start size) }
 {
     let mut place = at;
-    let mut j: usize = 0;
-    while j < size {
+    for j in 0..size {
         place = put_edge(out, place, edges, rows, at32(list, start + j));
-        j += 1;
     }
     place
 }
@@ -78,26 +71,25 @@ fn put_edges(
 pub fn begins(group: &[u32], i: usize) -> bool
     ensures { result ≡ beginsAt group.now i }
 {
-    if i == 0 {
-        return true;
-    }
-    at32(group, i) != at32(group, i - 1)
+    i == 0 || at32(group, i) != at32(group, i - 1)
 }
 
+#[tactic(auto, unfolding(crate::specs::Outlines::heading_text))]
 fn put_heading(out: &mut [u8], at: usize, group: &[u32], i: usize) -> usize
     requires { at ≤ length out.old }
     ensures { Wrote out.old at out.new result (heading_text group.now i) }
 {
     if begins(group, i) {
-        return put_noted(
+        put_noted(
             out,
             at,
             b"polygon of group ",
             at32(group, i),
             b"\n  outer ring",
-        );
+        )
+    } else {
+        put_bytes(out, at, b"  inner ring")
     }
-    put_bytes(out, at, b"  inner ring")
 }
 
 // Ring i of a ring list: its heading, area, length and edges.
@@ -106,22 +98,26 @@ fn put_ring(
     at: usize,
     edges: &[u64],
     rows: bool,
-    start: &[u32],
-    size: &[u32],
-    group: &[u32],
-    area: &[f64],
-    list: &[u32],
+    drawn: &Drawn<'_>,
     i: usize,
 ) -> usize
     requires { at ≤ length out.old }
-    ensures { Wrote out.old at out.new result (ring_text edges.now rows start.now size.now group.now area.now list.now i) }
+    ensures { Wrote out.old at out.new result (ring_text edges.now rows drawn.now.start.now drawn.now.size.now drawn.now.group.now drawn.now.area.now drawn.now.edges.now i) }
 {
-    let count = at32(size, i);
-    let headed = put_heading(out, at, group, i);
+    let count = at32(drawn.size, i);
+    let headed = put_heading(out, at, drawn.group, i);
     let named = put_bytes(out, headed, b", area ");
-    let measured = put_area(out, named, area_at(area, i));
+    let measured = put_area(out, named, area_at(drawn.area, i));
     let counted = put_noted(out, measured, b", edges ", count, b"\n");
-    put_edges(out, counted, edges, rows, list, at32(start, i), count)
+    put_edges(
+        out,
+        counted,
+        edges,
+        rows,
+        drawn.edges,
+        at32(drawn.start, i),
+        count,
+    )
 }
 
 // The first rings of a ring list, polygon after polygon.
@@ -130,21 +126,15 @@ pub fn put_rings(
     at: usize,
     edges: &[u64],
     rows: bool,
-    start: &[u32],
-    size: &[u32],
-    group: &[u32],
-    area: &[f64],
-    list: &[u32],
+    drawn: &Drawn<'_>,
     rings: usize,
 ) -> usize
     requires { at ≤ length out.old }
-    ensures { Wrote out.old at out.new result (rings_text edges.now rows start.now size.now group.now area.now list.now rings) }
+    ensures { Wrote out.old at out.new result (rings_text edges.now rows drawn.now.start.now drawn.now.size.now drawn.now.group.now drawn.now.area.now drawn.now.edges.now rings) }
 {
     let mut place = at;
-    let mut i: usize = 0;
-    while i < rings {
-        place = put_ring(out, place, edges, rows, start, size, group, area, list, i);
-        i += 1;
+    for i in 0..rings {
+        place = put_ring(out, place, edges, rows, drawn, i);
     }
     place
 }
@@ -154,9 +144,10 @@ pub fn standing(start: &[u32], size: &[u32], rings: usize) -> usize
     ensures { result ≡ standingOf start.now size.now rings }
 {
     if rings == 0 {
-        return 0;
+        0
+    } else {
+        at32(start, rings - 1) + at32(size, rings - 1)
     }
-    at32(start, rings - 1) + at32(size, rings - 1)
 }
 
 pub fn put_summary(

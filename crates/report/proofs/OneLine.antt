@@ -10,8 +10,8 @@ use Rattle.files.specs.declared.Reason.{Reason}
 use Rattle.files.specs.declared.Reason.TheVariants as reason
 use Rattle.cell_words.specs.declared.Wrong.{Wrong}
 use Rattle.cell_words.specs.declared.Wrong.TheVariants as wrong
-use Rattle.cell_text.specs.declared.Ending.TheVariants as ending
-use Rattle.table_bytes.specs.declared.TableFile.TheVariants as file
+use Rattle.cell_text.specs.declared.ListFault.TheVariants as list
+use Rattle.table_bytes.specs.declared.TableFault.TheVariants as table
 use Rattle.note_text.specs.Notes.{noted}
 use Rattle.report.specs.Faults.{unreadable_words, unreadable_text, too_long_text, table_fault_text, wrong_text, list_fault_text}
 
@@ -41,18 +41,18 @@ module _ (name : List ℕ) where
     unfolding one_line
     too_long_line = name_line name _ (number_line room _ refl)
 
-    pub cut_off_line : (place : ℕ) → one_line (table_fault_text name room (file.CutOff place)) ≡ true
+    pub cut_off_line : (place : ℕ) → one_line (table_fault_text name room (table.CutOff place)) ≡ true
     unfolding table_fault_text one_line
     cut_off_line place = name_line name _ (number_line place _ refl)
 
-    pub rows_line : (place : ℕ) → one_line (table_fault_text name room (file.TooMany place)) ≡ true
+    pub rows_line : (place : ℕ) → one_line (table_fault_text name room (table.TooMany place)) ≡ true
     unfolding table_fault_text unbroken one_line
     rows_line place = line_behind (shown name ++ noted (ascii " byte ") place (ascii "")) _ (name_unbroken name _ (number_unbroken place _ refl)) (number_line room _ refl)
 
-    pub fault_line : (line : ℕ) (what : Wrong) → one_line (list_fault_text name room (ending.Fault line what)) ≡ true
+    pub fault_line : (line : ℕ) (what : Wrong) → one_line (list_fault_text name room (list.Wrong line what)) ≡ true
     unfolding list_fault_text
     fault_line line what = line_behind (shown name ++ noted (ascii " line ") line (ascii "")) (wrong_text what) (lined_unbroken line) (wrong_line what)
 
-    pub cells_line : (line : ℕ) → one_line (list_fault_text name room (ending.TooMany line)) ≡ true
+    pub cells_line : (line : ℕ) → one_line (list_fault_text name room (list.TooMany line)) ≡ true
     unfolding list_fault_text one_line
     cells_line line = line_behind (shown name ++ noted (ascii " line ") line (ascii "")) _ (lined_unbroken line) (number_line room _ refl)

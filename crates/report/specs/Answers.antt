@@ -1,8 +1,9 @@
 -- What a call answered, as text: what it counts, and nothing, closed, or each ring; or a refusal in words.
 -- Assumes nothing.
-use Rattle.std.specs.Prelude.{ℕ, Bool, List, ◌++◌, Float, length}
+use Rattle.std.specs.Prelude.{ℕ, Bool, List, ◌++◌, Float, length, Err, Ok}
 use Rattle.scope.specs.declared.ReadOut.{ReadOut}
-use Rattle.scope.specs.declared.ReadOut.TheVariants.{Nothing, Closed, Outline, Refused}
+use Rattle.scope.specs.declared.ReadOut.TheVariants.{Nothing, Closed, Outline}
+use Rattle.scope.specs.Answers.{Answer, refusal_number, refusal_index}
 use Rattle.scope.specs.Lists.{at}
 use Rattle.text.specs.Text.{ascii}
 use Rattle.outline_text.specs.Outlines.{standing, summary_text, rings_text}
@@ -18,11 +19,15 @@ counted_text cells edges rows polygons rings start size group area rowList =
     summary_text (length edges) cells polygons rings (standing start size rings)
     ++ rings_text edges rows start size group area rowList rings
 
--- The whole report of `outline`: the names of the two files; how many cells, and their lines; the table's edges; the answer and what was written.
-unfoldable pub outline_text : List ℕ → List ℕ → ℕ → List ℕ → List ℕ → Bool → ReadOut → List ℕ → List ℕ → List ℕ → List Float → List ℕ → List ℕ
-outline_text table list cells lines edges rows Nothing start size group area rowList = none_text (length edges) cells ++ ascii "nothing: the list has no cells\n"
-outline_text table list cells lines edges rows Closed start size group area rowList = none_text (length edges) cells ++ ascii "closed: no edge stands\n"
-outline_text table list cells lines edges rows (Outline polygons rings first) start size group area rowList =
+-- what was read out of so many cells
+unfoldable pub read_out_text : ℕ → List ℕ → Bool → ReadOut → List ℕ → List ℕ → List ℕ → List Float → List ℕ → List ℕ
+read_out_text cells edges rows Nothing start size group area rowList = none_text (length edges) cells ++ ascii "nothing: the list has no cells\n"
+read_out_text cells edges rows Closed start size group area rowList = none_text (length edges) cells ++ ascii "closed: no edge stands\n"
+read_out_text cells edges rows (Outline polygons rings first) start size group area rowList =
     counted_text cells edges rows polygons rings start size group area rowList
-outline_text table list cells lines edges rows (Refused number index) start size group area rowList =
-    refusal_text table list number index (at lines index)
+
+-- The whole report of `outline`: the names of the two files; how many cells, and their lines; the table's edges; the answer and what was written.
+unfoldable pub outline_text : List ℕ → List ℕ → ℕ → List ℕ → List ℕ → Bool → Answer → List ℕ → List ℕ → List ℕ → List Float → List ℕ → List ℕ
+outline_text table list cells lines edges rows (Ok read) start size group area rowList = read_out_text cells edges rows read start size group area rowList
+outline_text table list cells lines edges rows (Err why) start size group area rowList =
+    refusal_text table list (refusal_number why) (refusal_index why) (at lines (refusal_index why))

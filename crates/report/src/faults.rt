@@ -1,25 +1,25 @@
 // Files that cannot be taken, in words.
-ghost use Rattle.std.specs.Prelude.{◌≤◌, length};
+ghost use Rattle.std.specs.Prelude.{◌≡◌, ◌≤◌, length};
 ghost use Rattle.text.specs.Text.{Wrote};
-ghost use Rattle.report.specs.Faults.{unreadable_words, unreadable_text, too_long_text, table_fault_text, wrong_text, list_fault_text};
+ghost use Rattle.report.specs.Faults.{unreadable_words, unreadable_text, too_long_text, file_error_text, table_fault_text, wrong_text, list_fault_text};
 
-use cell_text::Ending;
+use cell_text::ListFault;
 use cell_words::Wrong;
-use files::Reason;
+use files::{FileError, Reason};
 use note_text::put_noted;
-use table_bytes::TableFile;
+use table_bytes::TableFault;
 use text::{put_bytes, put_shown};
 
 // Why a file cannot be read.
-fn put_unreadable_words(out: &mut [u8], at: usize, reason: Reason) -> usize
-    requires { at ≤ length out.old }
-    ensures { Wrote out.old at out.new result (unreadable_words reason) }
+#[tactic(auto, unfolding(crate::specs::Faults::unreadable_words))]
+fn unreadable_words(reason: Reason) -> &'static [u8]
+    ensures { result.now ≡ unreadable_words reason }
 {
     match reason {
-        Reason::Missing => put_bytes(out, at, b": there is no such file\n"),
-        Reason::Directory => put_bytes(out, at, b": this is a directory\n"),
-        Reason::Forbidden => put_bytes(out, at, b": this file may not be read\n"),
-        Reason::Other => put_bytes(out, at, b": this file cannot be read\n"),
+        Reason::Missing => b": there is no such file\n",
+        Reason::Directory => b": this is a directory\n",
+        Reason::Forbidden => b": this file may not be read\n",
+        Reason::Other => b": this file cannot be read\n",
     }
 }
 
@@ -28,7 +28,7 @@ pub fn put_unreadable(out: &mut [u8], at: usize, name: &[u8], reason: Reason) ->
     ensures { Wrote out.old at out.new result (unreadable_text name.now reason) }
 {
     let named = put_shown(out, at, name);
-    put_unreadable_words(out, named, reason)
+    put_bytes(out, named, unreadable_words(reason))
 }
 
 pub fn put_too_long(out: &mut [u8], at: usize, name: &[u8], room: usize) -> usize
@@ -39,20 +39,36 @@ pub fn put_too_long(out: &mut [u8], at: usize, name: &[u8], room: usize) -> usiz
     put_noted(out, named, b" byte ", room, b": this file is too long\n")
 }
 
-// What is wrong with a table file, where something is.
+// Why no bytes of a file were taken.
+pub fn put_file_error(
+    out: &mut [u8],
+    at: usize,
+    name: &[u8],
+    room: usize,
+    error: FileError,
+) -> usize
+    requires { at ≤ length out.old }
+    ensures { Wrote out.old at out.new result (file_error_text name.now room error) }
+{
+    match error {
+        FileError::Unreadable(reason) => put_unreadable(out, at, name, reason),
+        FileError::TooLong => put_too_long(out, at, name, room),
+    }
+}
+
+// What is wrong with a table file.
 pub fn put_table_fault(
     out: &mut [u8],
     at: usize,
     name: &[u8],
     room: usize,
-    file: TableFile,
+    fault: TableFault,
 ) -> usize
     requires { at ≤ length out.old }
-    ensures { Wrote out.old at out.new result (table_fault_text name.now room file) }
+    ensures { Wrote out.old at out.new result (table_fault_text name.now room fault) }
 {
-    match file {
-        TableFile::Rows(_) => at,
-        TableFile::CutOff(place) => {
+    match fault {
+        TableFault::CutOff(place) => {
             let named = put_shown(out, at, name);
             put_noted(
                 out,
@@ -62,7 +78,7 @@ pub fn put_table_fault(
                 b": this row is cut off, a row has 20 bytes\n",
             )
         }
-        TableFile::TooMany(place) => {
+        TableFault::TooMany(place) => {
             let named = put_shown(out, at, name);
             let placed = put_noted(out, named, b" byte ", place, b"");
             put_noted(
@@ -77,6 +93,7 @@ pub fn put_table_fault(
 }
 
 // The byte of a line, and what is wrong there.
+#[tactic(auto, unfolding(crate::specs::Faults::wrong_text))]
 fn put_wrong(out: &mut [u8], at: usize, wrong: Wrong) -> usize
     requires { at ≤ length out.old }
     ensures { Wrote out.old at out.new result (wrong_text wrong) }
@@ -99,19 +116,24 @@ fn put_wrong(out: &mut [u8], at: usize, wrong: Wrong) -> usize
     }
 }
 
-// What is wrong with a cell list, where something is.
-pub fn put_list_fault(out: &mut [u8], at: usize, name: &[u8], room: usize, ending: Ending) -> usize
+// What is wrong with a cell list.
+pub fn put_list_fault(
+    out: &mut [u8],
+    at: usize,
+    name: &[u8],
+    room: usize,
+    fault: ListFault,
+) -> usize
     requires { at ≤ length out.old }
-    ensures { Wrote out.old at out.new result (list_fault_text name.now room ending) }
+    ensures { Wrote out.old at out.new result (list_fault_text name.now room fault) }
 {
-    match ending {
-        Ending::Whole => at,
-        Ending::Fault(line, wrong) => {
+    match fault {
+        ListFault::Wrong(line, wrong) => {
             let named = put_shown(out, at, name);
             let lined = put_noted(out, named, b" line ", line, b"");
             put_wrong(out, lined, wrong)
         }
-        Ending::TooMany(line) => {
+        ListFault::TooMany(line) => {
             let named = put_shown(out, at, name);
             let lined = put_noted(out, named, b" line ", line, b"");
             put_noted(out, lined, b": there are more than ", room, b" cells\n")

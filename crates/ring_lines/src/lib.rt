@@ -3,12 +3,13 @@
 #![tactic(auto)]
 
 ghost use Rattle.std.specs.Prelude.{◌≤◌, ◌<◌, ◌^◌, length};
-ghost use Rattle.scope.specs.Memory.{output};
+ghost use Rattle.lent.specs.Lent.{drawn_of};
 ghost use Rattle.text.specs.Text.{Wrote};
 ghost use Rattle.ring_lines.specs.Rings.{edge_word, edge_words, kind_text, ring_name, ring_line, ring_lines};
 
+use lent::Drawn;
 use note_text::{put_area, put_noted};
-use outline_text::{area_at, begins, edge_at};
+use outline_text::{area_at, at_or, begins};
 use slices::at32;
 use text::{put_bytes, put_numeral};
 
@@ -18,7 +19,7 @@ fn put_edge_word(out: &mut [u8], at: usize, edges: &[u64], row: usize) -> usize
     ensures { Wrote out.old at out.new result (edge_word edges.now row) }
 {
     let parted = put_bytes(out, at, b" ");
-    put_numeral(out, parted, edge_at(edges, row), 16, 16)
+    put_numeral(out, parted, at_or(edges, row, 0), 16, 16)
 }
 
 // So many edges of the edge list, from place `start` on.
@@ -34,10 +35,8 @@ fn put_edge_words(
     ensures { Wrote out.old at out.new result (edge_words edges.now list.now start size) }
 {
     let mut place = at;
-    let mut j: usize = 0;
-    while j < size {
+    for j in 0..size {
         place = put_edge_word(out, place, edges, at32(list, start + j));
-        j += 1;
     }
     place
 }
@@ -47,9 +46,10 @@ fn put_kind(out: &mut [u8], at: usize, outer: bool) -> usize
     ensures { Wrote out.old at out.new result (kind_text outer) }
 {
     if outer {
-        return put_bytes(out, at, b"outer");
+        put_bytes(out, at, b"outer")
+    } else {
+        put_bytes(out, at, b"inner")
     }
-    put_bytes(out, at, b"inner")
 }
 
 fn put_ring_name(out: &mut [u8], at: usize, group: &[u32], i: usize) -> usize
@@ -61,25 +61,22 @@ fn put_ring_name(out: &mut [u8], at: usize, group: &[u32], i: usize) -> usize
 }
 
 // Ring i of a ring list: its name, area and edges.
-fn put_ring_line(
-    out: &mut [u8],
-    at: usize,
-    edges: &[u64],
-    start: &[u32],
-    size: &[u32],
-    group: &[u32],
-    area: &[f64],
-    list: &[u32],
-    i: usize,
-) -> usize
+fn put_ring_line(out: &mut [u8], at: usize, edges: &[u64], drawn: &Drawn<'_>, i: usize) -> usize
     requires { at ≤ length out.old }
-    ensures { Wrote out.old at out.new result (ring_line edges.now (output start.now size.now group.now area.now list.now) i) }
+    ensures { Wrote out.old at out.new result (ring_line edges.now (drawn_of drawn.now) i) }
 {
-    let count = at32(size, i);
-    let named = put_ring_name(out, at, group, i);
-    let measured = put_area(out, named, area_at(area, i));
+    let count = at32(drawn.size, i);
+    let named = put_ring_name(out, at, drawn.group, i);
+    let measured = put_area(out, named, area_at(drawn.area, i));
     let counted = put_noted(out, measured, b", edges ", count, b":");
-    let listed = put_edge_words(out, counted, edges, list, at32(start, i), count);
+    let listed = put_edge_words(
+        out,
+        counted,
+        edges,
+        drawn.edges,
+        at32(drawn.start, i),
+        count,
+    );
     put_bytes(out, listed, b"\n")
 }
 
@@ -88,21 +85,15 @@ pub fn put_ring_lines(
     out: &mut [u8],
     at: usize,
     edges: &[u64],
-    start: &[u32],
-    size: &[u32],
-    group: &[u32],
-    area: &[f64],
-    list: &[u32],
+    drawn: &Drawn<'_>,
     rings: usize,
 ) -> usize
     requires { at ≤ length out.old }
-    ensures { Wrote out.old at out.new result (ring_lines edges.now (output start.now size.now group.now area.now list.now) rings) }
+    ensures { Wrote out.old at out.new result (ring_lines edges.now (drawn_of drawn.now) rings) }
 {
     let mut place = at;
-    let mut i: usize = 0;
-    while i < rings {
-        place = put_ring_line(out, place, edges, start, size, group, area, list, i);
-        i += 1;
+    for i in 0..rings {
+        place = put_ring_line(out, place, edges, drawn, i);
     }
     place
 }

@@ -3,26 +3,28 @@
 #![tactic(auto)]
 
 ghost use Rattle.std.specs.Prelude.{◌≡◌, ◌≤◌, length};
-ghost use Rattle.scope.specs.Memory.{output};
+ghost use Rattle.lent.specs.Lent.{drawn_of};
 ghost use Rattle.text.specs.Text.{Wrote};
-ghost use Rattle.zone_lines.specs.Zones.{counts_text, zone_text};
+ghost use Rattle.zone_lines.specs.Zones.{counts_text, read_out_text, zone_text};
 ghost use Rattle.zone_lines.specs.Telling.{told_by, Tells};
 
-use answers::is_done;
+use lent::Drawn;
 use note_text::{put_area, put_noted};
-use outline_text::{line_at, standing};
+use outline_text::{at_or, standing};
 use refusal_text::put_refusal;
 use ring_lines::put_ring_lines;
-use scope::ReadOut;
+use scope::{ReadOut, Refusal};
 use text::{put_bytes, put_shown};
 
-// What is told of a zone: so many bytes of its answer, or of the refusal; nothing where they would fill the room.
-#[derive(Clone, Copy)]
-pub enum Told {
-    Answer(usize),
-    Refusal(usize),
+// Why no answer is told of a zone: so many bytes tell of a refusal; or what there is to tell would fill the room, and may be cut off there.
+#[derive(Clone, Copy, Debug, PartialEq, Eq)]
+pub enum Untold {
+    Refused(usize),
     TooLong,
 }
+
+// What is told of a zone: so many bytes of its answer.
+pub type Told = Result<usize, Untold>;
 
 fn put_counts(
     out: &mut [u8],
@@ -50,6 +52,41 @@ fn put_counts(
     put_bytes(out, measured, b"\n")
 }
 
+// What dissolve read out of a list.
+fn put_read_out(
+    out: &mut [u8],
+    at: usize,
+    list: &[u8],
+    cells: usize,
+    edges: &[u64],
+    read: ReadOut,
+    drawn: &Drawn<'_>,
+) -> usize
+    requires { at ≤ length out.old }
+    ensures { Wrote out.old at out.new result (read_out_text list.now cells edges.now read (drawn_of drawn.now)) }
+{
+    let named = put_shown(out, at, list);
+    match read {
+        ReadOut::Nothing => put_bytes(
+            out,
+            named,
+            b": nothing, cells 0, polygons 0, rings 0, standing edges 0\n",
+        ),
+        ReadOut::Closed => put_noted(
+            out,
+            named,
+            b": closed, cells ",
+            cells,
+            b", polygons 0, rings 0, standing edges 0\n",
+        ),
+        ReadOut::Outline(polygons, rings, first) => {
+            let stand = standing(drawn.start, drawn.size, rings);
+            let counted = put_counts(out, named, cells, polygons, rings, stand, first);
+            put_ring_lines(out, counted, edges, drawn, rings)
+        }
+    }
+}
+
 // What dissolve answered of a list, and what it read out.
 fn put_zone(
     out: &mut [u8],
@@ -59,61 +96,33 @@ fn put_zone(
     cells: usize,
     lines: &[usize],
     edges: &[u64],
-    answer: ReadOut,
-    start: &[u32],
-    size: &[u32],
-    group: &[u32],
-    area: &[f64],
-    row_list: &[u32],
+    answer: Result<ReadOut, Refusal>,
+    drawn: &Drawn<'_>,
 ) -> usize
     requires { at ≤ length out.old }
-    ensures { Wrote out.old at out.new result (zone_text table.now list.now cells lines.now edges.now answer (output start.now size.now group.now area.now row_list.now)) }
+    ensures { Wrote out.old at out.new result (zone_text table.now list.now cells lines.now edges.now answer (drawn_of drawn.now)) }
 {
     match answer {
-        ReadOut::Nothing => {
-            let named = put_shown(out, at, list);
-            put_bytes(
-                out,
-                named,
-                b": nothing, cells 0, polygons 0, rings 0, standing edges 0\n",
-            )
-        }
-        ReadOut::Closed => {
-            let named = put_shown(out, at, list);
-            put_noted(
-                out,
-                named,
-                b": closed, cells ",
-                cells,
-                b", polygons 0, rings 0, standing edges 0\n",
-            )
-        }
-        ReadOut::Outline(polygons, rings, first) => {
-            let named = put_shown(out, at, list);
-            let stand = standing(start, size, rings);
-            let counted = put_counts(out, named, cells, polygons, rings, stand, first);
-            put_ring_lines(
-                out, counted, edges, start, size, group, area, row_list, rings,
-            )
-        }
-        ReadOut::Refused(number, index) => {
-            let line = line_at(lines, index);
-            put_refusal(out, at, table, list, number, index, line)
+        Ok(read) => put_read_out(out, at, list, cells, edges, read, drawn),
+        Err(refusal) => {
+            let line = at_or(lines, refusal.index(), 0);
+            put_refusal(out, at, table, list, refusal, line)
         }
     }
 }
 
 // What is told where so many bytes were written, of a call that was carried out or refused.
+#[tactic(auto, unfolding(crate::specs::Telling::told_by))]
 fn told_of(size: usize, room: usize, done: bool) -> Told
     ensures { result ≡ told_by size room done }
 {
-    if size < room {
-        if done {
-            return Told::Answer(size);
-        }
-        return Told::Refusal(size);
+    if room <= size {
+        Err(Untold::TooLong)
+    } else if done {
+        Ok(size)
+    } else {
+        Err(Untold::Refused(size))
     }
-    Told::TooLong
 }
 
 // Tells what dissolve answered of a list, and what it read out: the names of the two files, how many cells and the line of each, the table's edges.
@@ -124,18 +133,12 @@ pub fn tell_zone(
     cells: usize,
     lines: &[usize],
     edges: &[u64],
-    answer: ReadOut,
-    start: &[u32],
-    size: &[u32],
-    group: &[u32],
-    area: &[f64],
-    row_list: &[u32],
+    answer: Result<ReadOut, Refusal>,
+    drawn: &Drawn<'_>,
 ) -> Told
-    ensures { Tells table.now list.now cells lines.now edges.now answer (output start.now size.now group.now area.now row_list.now) out.old out.new result }
+    ensures { Tells table.now list.now cells lines.now edges.now answer (drawn_of drawn.now) out.old out.new result }
 {
     let room = out.len();
-    let written = put_zone(
-        out, 0, table, list, cells, lines, edges, answer, start, size, group, area, row_list,
-    );
-    told_of(written, room, is_done(answer))
+    let written = put_zone(out, 0, table, list, cells, lines, edges, answer, drawn);
+    told_of(written, room, answer.is_ok())
 }

@@ -1,9 +1,10 @@
--- `outline_text::put_edge` meets its contract.
+-- `outline_text::put_edge` meets its contract: its texts, one behind the other.
 -- Assumes nothing.
+use Rattle.std.proofs.Common.{rules}
 use Rattle.text.proofs.Writing.{wrote_more}
 use Rattle.outline_text.specs.Outlines.{edge_text}
 use Rattle.outline_text.proofs.put_edge.Goals as goal
 
 pub returns : goal.returns
 unfolding edge_text
-returns c = wrote_more (wrote_more c.put_bytes-indented.ensures c.put_edge_name-named.ensures) c.put_bytes.ensures
+returns c = search (rules, wrote_more)

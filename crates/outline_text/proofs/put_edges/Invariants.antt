@@ -1,5 +1,5 @@
 -- The loop of `outline_text::put_edges`.
-use Prim.Native.Nat.{◌+◌, ◌-◌}
+use Prim.Native.Nat.{◌+◌}
 use Rattle.scope.specs.Lists.{at as entry}
 use Rattle.text.proofs.Writing.{Runs}
 use Rattle.outline_text.specs.Outlines.{edge_text}
@@ -7,6 +7,3 @@ use Rattle.outline_text.proofs.put_edges.Given as goal
 
 abbrev pub invariant-loop-j : goal.invariant-loop-j
 invariant-loop-j l = Runs (λ k. edge_text l.edges l.rows (entry l.list (l.start + k))) l.size l.initial.out l.at l.out l.place l.j
-
-abbrev pub decreases-loop-j : goal.decreases-loop-j
-decreases-loop-j l = l.size - l.j

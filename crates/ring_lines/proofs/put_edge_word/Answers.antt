@@ -6,4 +6,4 @@ use Rattle.ring_lines.proofs.put_edge_word.Goals as goal
 
 pub returns : goal.returns
 unfolding edge_word
-returns c = rw (← c.edge_at.ensures) (wrote_more c.put_bytes-parted.ensures c.put_numeral.ensures)
+returns c = rw (← c.at_or.ensures) (wrote_more c.put_bytes-parted.ensures c.put_numeral.ensures)

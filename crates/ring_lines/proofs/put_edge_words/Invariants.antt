@@ -1,5 +1,5 @@
 -- The loop of `ring_lines::put_edge_words`.
-use Prim.Native.Nat.{◌+◌, ◌-◌}
+use Prim.Native.Nat.{◌+◌}
 use Rattle.scope.specs.Lists.{at as entry}
 use Rattle.text.proofs.Writing.{Runs}
 use Rattle.ring_lines.specs.Rings.{edge_word}
@@ -7,6 +7,3 @@ use Rattle.ring_lines.proofs.put_edge_words.Given as goal
 
 abbrev pub invariant-loop-j : goal.invariant-loop-j
 invariant-loop-j l = Runs (λ k. edge_word l.edges (entry l.list (l.start + k))) l.size l.initial.out l.at l.out l.place l.j
-
-abbrev pub decreases-loop-j : goal.decreases-loop-j
-decreases-loop-j l = l.size - l.j

@@ -4,4 +4,4 @@ use Rattle.zone_lines.proofs.Fits.{tells}
 use Rattle.zone_lines.proofs.tell_zone.Goals as goal
 
 pub returns : goal.returns
-returns c = tells c.put_zone-written.ensures c.is_done.ensures c.told_of.ensures
+returns c = tells c.put_zone-written.ensures c.is_ok.ensures.value c.told_of.ensures

@@ -1,16 +1,12 @@
--- `report::faults/put_list_fault` meets its contract. By cases.
+-- `report::faults::put_list_fault` meets its contract: its texts, one behind the other.
 -- Assumes nothing.
-use Rattle.text.proofs.Writing.{wrote_none, wrote_more}
+use Rattle.text.proofs.Writing.{wrote_more}
 use Rattle.report.specs.Faults.{list_fault_text}
 use Rattle.report.proofs.faults.put_list_fault.Goals as goal
 
-pub returns-in-Whole : goal.returns-in-Whole
+pub returns-in-Wrong : goal.returns-in-Wrong
 unfolding list_fault_text
-returns-in-Whole c = rw c.in-Whole.is (wrote_none _ _ c.requires)
-
-pub returns-in-Fault : goal.returns-in-Fault
-unfolding list_fault_text
-returns-in-Fault c = rw c.in-Fault.is (wrote_more (wrote_more c.put_shown-named.ensures c.put_noted-lined.ensures) c.put_wrong.ensures)
+returns-in-Wrong c = rw c.in-Wrong.is (wrote_more (wrote_more c.put_shown-named.ensures c.put_noted-lined.ensures) c.put_wrong.ensures)
 
 pub returns-in-TooMany : goal.returns-in-TooMany
 unfolding list_fault_text

@@ -1,12 +1,8 @@
--- `report::faults/put_table_fault` meets its contract. By cases.
+-- `report::faults::put_table_fault` meets its contract: its texts, one behind the other.
 -- Assumes nothing.
-use Rattle.text.proofs.Writing.{wrote_none, wrote_more}
+use Rattle.text.proofs.Writing.{wrote_more}
 use Rattle.report.specs.Faults.{table_fault_text}
 use Rattle.report.proofs.faults.put_table_fault.Goals as goal
-
-pub returns-in-Rows : goal.returns-in-Rows
-unfolding table_fault_text
-returns-in-Rows c = rw c.in-Rows.is (wrote_none _ _ c.requires)
 
 pub returns-in-CutOff : goal.returns-in-CutOff
 unfolding table_fault_text

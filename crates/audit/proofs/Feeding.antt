@@ -8,16 +8,14 @@ use native.Mathlib.Numerals.{add-one}
 use native.Mathlib.Omega.{arith}
 use lib.ListN.{length, set, drop, replicate, length-append, drop_of_length-le}
 use lib.Seq.{drop-cons, append_snoc}
-use Rattle.scope.specs.declared.Verdict.{Verdict}
 use Rattle.scope.specs.Lists.{at}
-use Rattle.scope.specs.Answers.{refusal_of}
+use Rattle.scope.specs.Answers.{refusal_of, Verdict}
 use Rattle.scope.specs.Table.{Table}
 use Rattle.scope.specs.Memory.{Memory}
 use Rattle.scope.specs.Calls.{Outcome, offering, offer_verdict}
 use Rattle.scope.proofs.Numbered.{number_most, offer_numbered}
-use Rattle.taking.proofs.Sizes.{Sized, sized_refl, sized_on}
 use Rattle.audit.specs.Feed.{verdicts, left_by, tally, feeding, points_unchecked}
-use Rattle.audit.proofs.Tally.{tally_none, tally_next, tally_length, tally_at, count_most, counts_most}
+use Rattle.audit.proofs.Tally.{tally_none, tally_next, tally_at, count_most, counts_most}
 
 -- the first i cells of the feed are offered, `done` are their verdicts, and m is what they left
 pub record InFeed (t : Table) (m₀ : Memory) (xs : List ℕ) (m : Memory) (counts : List ℕ) (i : ℕ) : Type 0 where
@@ -27,10 +25,9 @@ pub record InFeed (t : Table) (m₀ : Memory) (xs : List ℕ) (m : Memory) (coun
   pub all : verdicts t m₀ xs ≡ done ++ verdicts t m (drop i xs)
   pub left : left_by t m₀ xs ≡ left_by t m (drop i xs)
   pub counted : counts ≡ tally done
-  pub sized : Sized m₀ m
 
-pub feed_start : (t : Table) (m : Memory) (xs counts : List ℕ) → counts ≡ replicate 11 0 → InFeed t m xs m counts 0
-feed_start t m xs counts e = record { done = []; within = omega arith; many = refl; all = refl; left = refl; counted = e ∙ tally_none; sized = sized_refl m }
+pub feed_start : (t : Table) (m : Memory) (xs : List ℕ) → InFeed t m xs m (replicate 11 0) 0
+feed_start t m xs = record { done = []; within = omega arith; many = refl; all = refl; left = refl; counted = tally_none }
 
 -- an offer's verdict has a number of at most 10
 pub offer_low : (t : Table) (m : Memory) (x : ℕ) {v : Verdict} {m' : Memory} → record { answer = v; left = m' } ≡ offering t m x → refusal_of v < 11
@@ -46,9 +43,6 @@ module _ {t : Table} {m₀ m : Memory} {xs counts : List ℕ} {i : ℕ} (I : InF
       let last : left_by t m₀ xs ≡ m = I.left ∙ ap (left_by t m) none in
       rw (over, last, I.counted)
 
-  pub feed_long : length counts ≡ 11
-  feed_long = ap length I.counted ∙ tally_length I.done
-
   -- accepted offers and replays are together no more than the cells
   pub feed_most : points_unchecked counts ≤ length xs
   feed_most =
@@ -61,12 +55,12 @@ module _ {t : Table} {m₀ m : Memory} {xs counts : List ℕ} {i : ℕ} (I : InF
     low : refusal_of v < 11
     low = offer_low t m (at xs i) q
 
-    pub feed_low : (refusal_of v < length counts) × (at counts (refusal_of v) ≤ i)
-    feed_low = (let l = feed_long in let k = low in omega arith, (let n = count_most (refusal_of v) I.done in let k = I.many in rw (I.counted, tally_at I.done (refusal_of v) low) (omega arith)))
+    pub feed_low : {n : ℕ} → n ≡ refusal_of v → (n < 11) × (at counts n ≤ i)
+    feed_low e = rw e (low, (let n = count_most (refusal_of v) I.done in let k = I.many in rw (I.counted, tally_at I.done (refusal_of v) low) (omega arith)))
 
-    pub feed_next : {counts' : List ℕ} → counts' ≡ set counts (refusal_of v) (at counts (refusal_of v) + 1) → Sized m m' → InFeed t m₀ xs m' counts' (i + 1)
+    pub feed_next : {n : ℕ} → n ≡ refusal_of v → InFeed t m₀ xs m' (set counts n (at counts n + 1)) (i + 1)
     unfolding verdicts left_by
-    feed_next e z =
+    feed_next e =
         let next = drop-cons xs i 0 h in
         record {
           done = I.done ++ (v ∷ []);
@@ -76,6 +70,5 @@ module _ {t : Table} {m₀ m : Memory} {xs counts : List ℕ} {i : ℕ} (I : InF
               ∙ ap (λ (o : Outcome). I.done ++ (o.answer ∷ verdicts t o.left (drop (suc i) xs))) (sym q)
               ∙ sym (append_snoc I.done v (verdicts t m' (drop (suc i) xs))));
           left = rw (add-one i) (I.left ∙ ap (left_by t m) next ∙ ap (λ (o : Outcome). left_by t o.left (drop (suc i) xs)) (sym q));
-          counted = e ∙ ap (λ (l : List ℕ). set l (refusal_of v) (at l (refusal_of v) + 1)) I.counted ∙ tally_next I.done v low;
-          sized = sized_on I.sized z;
+          counted = ap (λ (k : ℕ). set counts k (at counts k + 1)) e ∙ ap (λ (l : List ℕ). set l (refusal_of v) (at l (refusal_of v) + 1)) I.counted ∙ tally_next I.done v low;
         }

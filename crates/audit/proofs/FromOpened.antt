@@ -13,9 +13,9 @@ use native.Mathlib.Omega.{arith}
 use borrow.Author.Tests.{ne_eqb}
 use lib.Dec.{eqb}
 use lib.ListN.{length}
-use Rattle.scope.specs.declared.Verdict.{Verdict}
-use Rattle.scope.specs.declared.Verdict.TheVariants.{Accepted, Refused}
-use Rattle.scope.specs.Answers.{refusal_of, if_accepted, require}
+use Rattle.scope.specs.declared.Refusal.TheVariants.{BadLengths}
+use Rattle.std.specs.Prelude.{Err, Ok}
+use Rattle.scope.specs.Answers.{refusal_number, refusal_of, if_accepted, require, Verdict}
 use Rattle.scope.specs.Table.{Table}
 use Rattle.scope.specs.Memory.{Memory, Output, opened, held, held_cells, lengths_fit, mode_fits}
 use Rattle.scope.specs.Pool.{taking}
@@ -33,19 +33,19 @@ use Rattle.audit.proofs.Tally.{tally_at}
 -- ---- the accepted cells alone
 
 -- one more offer, where what comes after it is known from every memory
-module _ (t : Table) (m : Memory) (x : ℕ) (xs : List ℕ) (on : (k : Memory) → offering_all t k (accepted_of t k xs) ≡ record { answer = Accepted; left = left_by t k xs }) where
+module _ (t : Table) (m : Memory) (x : ℕ) (xs : List ℕ) (on : (k : Memory) → offering_all t k (accepted_of t k xs) ≡ record { answer = Ok tt; left = left_by t k xs }) where
   one : (v : Verdict) (k : Memory) → offering t m x ≡ outcome v k m
-      → offering_all t m (if_accepted v (x ∷ accepted_of t (if_accepted v k m) xs) (accepted_of t (if_accepted v k m) xs)) ≡ record { answer = Accepted; left = left_by t (if_accepted v k m) xs }
+      → offering_all t m (if_accepted v (x ∷ accepted_of t (if_accepted v k m) xs) (accepted_of t (if_accepted v k m) xs)) ≡ record { answer = Ok tt; left = left_by t (if_accepted v k m) xs }
   unfolding offering_all
-  one Accepted k e = rw e (on k)
-  one (Refused number index) k e = on m
+  one (Ok done) k e = rw e (on k)
+  one (Err why) k e = on m
 
-  offered : offering_all t m (accepted_of t m (x ∷ xs)) ≡ record { answer = Accepted; left = left_by t m (x ∷ xs) }
+  offered : offering_all t m (accepted_of t m (x ∷ xs)) ≡ record { answer = Ok tt; left = left_by t m (x ∷ xs) }
   unfolding offering accepted_of left_by
   offered = one (offer_verdict t m x) (taking t m x) refl
 
 module _ (t : Table) where
-  pub accepted_all : (m : Memory) (xs : List ℕ) → offering_all t m (accepted_of t m xs) ≡ record { answer = Accepted; left = left_by t m xs }
+  pub accepted_all : (m : Memory) (xs : List ℕ) → offering_all t m (accepted_of t m xs) ≡ record { answer = Ok tt; left = left_by t m xs }
   unfolding offering_all accepted_of left_by
   accepted_all m [] = refl
   accepted_all m (x ∷ xs) = offered t m x xs (λ k. accepted_all k xs)
@@ -54,8 +54,8 @@ module _ (t : Table) where
 
   counted : (v : Verdict) (x : ℕ) (l : List ℕ) (n : ℕ) → Numbered v → n ≡ length l → cond (eqb (refusal_of v) 0) 1 0 + n ≡ length (if_accepted v (x ∷ l) l)
   unfolding refusal_of
-  counted Accepted x l n w e = omega arith
-  counted (Refused number index) x l n w e = rw (ne_eqb number 0 (λ q. let z = w.least in omega arith)) (omega arith)
+  counted (Ok done) x l n w e = omega arith
+  counted (Err why) x l n w e = rw (ne_eqb (refusal_number why) 0 (λ q. let z = w.least in omega arith)) (omega arith)
 
   numbered : (m : Memory) (x : ℕ) → Numbered (offering t m x).answer
   unfolding offering
@@ -69,7 +69,7 @@ module _ (t : Table) where
 
 -- ---- from a newly opened state
 
-module _ (t : Table) (m : Memory) (mode : ℕ) (opens : open_verdict t m mode ≡ Accepted) (xs : List ℕ) where
+module _ (t : Table) (m : Memory) (mode : ℕ) (opens : open_verdict t m mode ≡ Ok tt) (xs : List ℕ) where
   abbrev fresh : Memory
   fresh = opened mode m
 
@@ -79,7 +79,7 @@ module _ (t : Table) (m : Memory) (mode : ℕ) (opens : open_verdict t m mode �
   abbrev taken : List ℕ
   taken = accepted_of t fresh xs
 
-  all_taken : (offering_all t fresh taken).answer ≡ Accepted
+  all_taken : (offering_all t fresh taken).answer ≡ Ok tt
   all_taken = ap (λ (o : Outcome). o.answer) (accepted_all t fresh xs)
 
   leaves_last : (offering_all t fresh taken).left ≡ last
@@ -87,8 +87,8 @@ module _ (t : Table) (m : Memory) (mode : ℕ) (opens : open_verdict t m mode �
 
   open_shown : Shown t fresh []
   unfolding open_verdict
-  open_shown = opened_shown t m mode (second_accepts (require (lengths_fit t m && mode_fits mode) 10 0) _ opens)
-      (lengths_good t m (and_left (lengths_fit t m) (mode_fits mode) (require_holds _ 10 0 (first_accepts _ _ opens))))
+  open_shown = opened_shown t m mode (second_accepts (require (lengths_fit t m && mode_fits mode) BadLengths) _ opens)
+      (lengths_good t m (and_left (lengths_fit t m) (mode_fits mode) (require_holds _ BadLengths (first_accepts _ _ opens))))
 
   pub held_are : held_cells last ≡ taken
   held_are = rw leaves_last at (all_shown t fresh [] taken open_shown all_taken).shows.cells
@@ -103,5 +103,5 @@ module _ (t : Table) (m : Memory) (mode : ℕ) (opens : open_verdict t m mode �
   pub over_none : points_over (held last) (tally (verdicts t fresh xs)) ≡ 0
   over_none = rw credited_once (omega arith)
 
-  pub afresh_same : (o : Output) → read_verdict t last o ≡ Accepted → dissolving t m mode (held_cells last) o ≡ reading_out t last o
+  pub afresh_same : (o : Output) → read_verdict t last o ≡ Ok tt → dissolving t m mode (held_cells last) o ≡ reading_out t last o
   afresh_same o r = rw held_are (dissolve_is t m mode taken o opens all_taken (rw leaves_last r) ∙ ap (λ (k : Memory). reading_out t k o) leaves_last)

@@ -11,11 +11,11 @@ use mathlib.Core.Logic.{⊎_elim}
 use borrow.Author.Tests.{eq-eqb, eqb-true}
 use lib.Dec.{eqb, leb}
 use lib.ListN.{length}
-use Rattle.scope.specs.declared.Verdict.{Verdict}
-use Rattle.scope.specs.declared.Verdict.TheVariants.{Accepted, Refused}
+use Rattle.scope.specs.declared.Refusal.TheVariants.{InvalidCell, DuplicateInput, UnsupportedResolution, EdgeNotInTable, EdgeTwice, PoolFull, TooManyCells}
+use Rattle.std.specs.Prelude.{Err, Ok}
 use Rattle.scope.specs.Lists.{at, member, passes}
 use Rattle.scope.specs.Cells.{valid_cell}
-use Rattle.scope.specs.Answers.{refusal_of, require, ◌▷◌, if_accepted}
+use Rattle.scope.specs.Answers.{refusal_number, refusal_of, require, ◌▷◌, if_accepted, Verdict}
 use Rattle.scope.specs.Table.{Table, target_of, outline_rows}
 use Rattle.scope.specs.CellLists.{differs, resolution_fits, cell_verdict}
 use Rattle.scope.specs.Memory.{Memory, kept_mode, held, held_cells, places, opened, kept}
@@ -35,9 +35,9 @@ use Rattle.audit.specs.Feed.{verdicts, count_of}
 
 -- the number 3 among an offer's tests: the cell is valid and not the first of its kind
 three_of : (n h : ℕ) (valid once fits room inside twice slots : Bool)
-    → eqb (refusal_of ((require valid 2 n ▷ require once 3 n ▷ require fits 4 n ▷ Accepted ▷ require room 8 0) ▷ require inside 5 h ▷ require twice 6 h ▷ require slots 7 h)) 3
+    → eqb (refusal_of ((require valid (InvalidCell n) ▷ require once (DuplicateInput n) ▷ require fits (UnsupportedResolution n) ▷ (Ok tt) ▷ require room TooManyCells) ▷ require inside (EdgeNotInTable h) ▷ require twice (EdgeTwice h) ▷ require slots (PoolFull h))) 3
     ≡ (valid && not once)
-unfolding refusal_of
+unfolding refusal_of refusal_number
 three_of n h false once fits room inside twice slots = refl
 three_of n h true false fits room inside twice slots = refl
 three_of n h true true false room inside twice slots = refl
@@ -88,8 +88,8 @@ module _ (t : Table) where
   left_even m x e = go (offer_verdict t m x) refl
     where
       go : (v : Verdict) → offer_verdict t m x ≡ v → kept_mode (if_accepted v (taking t m x) m) ≡ 0
-      go Accepted a = taken_mode (offered t m x a) ∙ e
-      go (Refused number index) a = e
+      go (Ok done) a = taken_mode (offered t m x a) ∙ e
+      go (Err why) a = e
 
   answer_held : (m : Memory) (x : ℕ) → Sound t m → kept_mode m ≡ 0 → eqb (refusal_of (offering t m x).answer) 3 ≡ member x (held_cells m)
   unfolding offering
@@ -103,7 +103,7 @@ module _ (t : Table) where
       (replays_count (offering t m x).left _ xs (offer_shown t m cs x S) (left_even m x e))
 
 -- THE REPLAYS OF A FEED
-pub replays_are : (t : Table) (m : Memory) (mode : ℕ) → open_verdict t m mode ≡ Accepted → kept mode ≡ 0 → (xs : List ℕ)
+pub replays_are : (t : Table) (m : Memory) (mode : ℕ) → open_verdict t m mode ≡ Ok tt → kept mode ≡ 0 → (xs : List ℕ)
     → count_of 3 (verdicts t (opened mode m) xs) ≡ replays_of t (opened mode m) xs
 unfolding opened
 replays_are t m mode opens even xs = replays_count t (opened mode m) [] xs (open_shown t m mode opens) even

@@ -13,9 +13,8 @@ use borrow.Author.Tests.{eq-eqb, ne_eqb, eqb-true}
 use lib.Dec.{eqb}
 use lib.ListN.{length, set, replicate, length-set}
 use lib.Seq.{ext_get_or, get_or-set_same, get_or-set_other}
-use Rattle.scope.specs.declared.Verdict.{Verdict}
 use Rattle.scope.specs.Lists.{at, tabulate_from}
-use Rattle.scope.specs.Answers.{refusal_of}
+use Rattle.scope.specs.Answers.{refusal_of, Verdict}
 use Rattle.scope.proofs.Below.{tabulate_length, tabulate_at}
 use Rattle.scope.proofs.Members.{cases}
 use Rattle.audit.specs.Feed.{count_of, tally}

@@ -2,9 +2,8 @@
 -- Its verdicts, the memory it leaves, the cells it has accepted, and how many verdicts have each number.
 -- Assumes nothing.
 use Rattle.std.specs.Prelude.{ℕ, ◌+◌, ◌-◌, cond, List, [], ◌∷◌, eqb}
-use Rattle.scope.specs.declared.Verdict.{Verdict}
 use Rattle.scope.specs.Lists.{at, tabulate}
-use Rattle.scope.specs.Answers.{refusal_of, if_accepted}
+use Rattle.scope.specs.Answers.{refusal_of, if_accepted, Verdict}
 use Rattle.scope.specs.Table.{Table}
 use Rattle.scope.specs.Memory.{Memory}
 use Rattle.scope.specs.Calls.{offering}

@@ -4,9 +4,8 @@
 use Rattle.std.specs.Prelude.{ℕ, Bool, ◌&&◌, List, eqb, Float, length, get_or}
 use Rattle.std.specs.Float.{binary64, nan}
 use Rattle.std.specs.Float.Ieee.{to_bits}
-use Rattle.scope.specs.declared.ReadOut.{ReadOut}
 use Rattle.scope.specs.Lists.{at, passes}
-use Rattle.scope.specs.Answers.{kind_of, verdict_of, polygons_of, rings_of, is_accepted}
+use Rattle.scope.specs.Answers.{kind_of, verdict_of, polygons_of, rings_of, is_accepted, Answer}
 use Rattle.scope.specs.Bytes.{area_bits}
 use Rattle.scope.specs.Memory.{Output}
 
@@ -34,7 +33,7 @@ same_output o p =
     && same_numbers o.edges p.edges
 
 -- Both are carried out, and have the same kind, counts and first outer area. A refusal shows no outline, so it is the same as no other answer.
-unfoldable pub same_answer : ReadOut → ReadOut → Bool
+unfoldable pub same_answer : Answer → Answer → Bool
 same_answer r s =
     is_accepted (verdict_of r)
     && is_accepted (verdict_of s)

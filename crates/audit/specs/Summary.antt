@@ -1,8 +1,8 @@
 -- What an audit says, as text: the offers by their verdicts, the replays, the standing outline beside the one dissolved afresh, and the points.
 -- Assumes nothing.
-use Rattle.std.specs.Prelude.{ℕ, ◌+◌, Bool, cond, List, [], ◌++◌, eqb}
-use Rattle.scope.specs.declared.ReadOut.{ReadOut}
-use Rattle.scope.specs.declared.ReadOut.TheVariants.{Nothing, Closed, Outline, Refused}
+use Rattle.std.specs.Prelude.{ℕ, ◌+◌, Bool, cond, List, [], ◌++◌, eqb, Err, Ok}
+use Rattle.scope.specs.Answers.{refusal_number, Answer}
+use Rattle.scope.specs.declared.ReadOut.TheVariants.{Nothing, Closed, Outline}
 use Rattle.scope.specs.Lists.{at}
 use Rattle.scope.specs.Bytes.{joined}
 use Rattle.text.specs.Text.{ascii}
@@ -37,11 +37,11 @@ counts_text polygons rings = noted (ascii "standing outline: polygons ") polygon
 unfoldable pub unread_text : ℕ → List ℕ
 unread_text number = noted (ascii "standing outline: refused ") number (ascii ", ") ++ refusal_words number ++ ascii "\n"
 
-unfoldable pub standing_text : ReadOut → List ℕ
-standing_text Nothing = ascii "standing outline: nothing, no cell is held\n"
-standing_text Closed = ascii "standing outline: closed, no edge stands\n"
-standing_text (Outline polygons rings area) = counts_text polygons rings
-standing_text (Refused number index) = unread_text number
+unfoldable pub standing_text : Answer → List ℕ
+standing_text (Ok Nothing) = ascii "standing outline: nothing, no cell is held\n"
+standing_text (Ok Closed) = ascii "standing outline: closed, no edge stands\n"
+standing_text (Ok (Outline polygons rings area)) = counts_text polygons rings
+standing_text (Err why) = unread_text (refusal_number why)
 
 abbrev pub afresh_text : Bool → List ℕ
 afresh_text same = cond same (ascii "dissolved afresh from the accepted cells: the same\n") (ascii "dissolved afresh from the accepted cells: ANOTHER OUTLINE\n")
@@ -55,5 +55,5 @@ points_text visits counts =
     ++ noted (ascii "points credited here ") (points_credited counts) (ascii "\n")
     ++ noted (ascii "points over ") (points_over visits counts) (ascii "\n")
 
-unfoldable pub audit_text : ℕ → List ℕ → ReadOut → Bool → ℕ → List ℕ
+unfoldable pub audit_text : ℕ → List ℕ → Answer → Bool → ℕ → List ℕ
 audit_text offered counts standing same visits = offers_text offered counts ++ standing_text standing ++ afresh_text same ++ points_text visits counts

@@ -1,5 +1,5 @@
 // What an audit says, as text into a lent slice.
-ghost use Rattle.std.specs.Prelude.{◌≡◌, ◌+◌, ◌-◌, ◌≤◌, ◌<◌, ◌^◌, length};
+ghost use Rattle.std.specs.Prelude.{◌≡◌, ◌≤◌, ◌<◌, ◌^◌, length};
 ghost use Rattle.scope.specs.Lists.{at as place_of};
 ghost use Rattle.text.specs.Text.{Wrote};
 ghost use Rattle.audit.specs.Feed.{points_unchecked, points_over};
@@ -7,18 +7,14 @@ ghost use Rattle.audit.specs.Summary.{refused_text, refusals_text, offers_text, 
 
 use note_text::put_noted;
 use refusal_text::put_words;
-use scope::ReadOut;
+use scope::{ReadOut, Refusal};
 use text::put_bytes;
 
 // The count of a number, 0 past the end.
 fn count_at(counts: &[usize], number: usize) -> usize
     ensures { result ≡ place_of counts.now number }
 {
-    if number < counts.len() {
-        counts[number]
-    } else {
-        0
-    }
+    counts.get(number).copied().unwrap_or(0)
 }
 
 // How many offers were refused by a number, where some were.
@@ -41,10 +37,8 @@ fn put_refusals(out: &mut [u8], at: usize, counts: &[usize]) -> usize
     ensures { Wrote out.old at out.new result (refusals_text counts.now) }
 {
     let mut place = at;
-    let mut i: usize = 0;
-    while i < 10 {
+    for i in 0..10 {
         place = put_refused(out, place, counts, i + 1);
-        i += 1;
     }
     place
 }
@@ -85,46 +79,35 @@ fn put_unread(out: &mut [u8], at: usize, number: usize) -> usize
     put_bytes(out, worded, b"\n")
 }
 
-fn put_standing(out: &mut [u8], at: usize, standing: ReadOut) -> usize
+#[tactic(auto, unfolding(crate::specs::Summary::standing_text))]
+fn put_standing(out: &mut [u8], at: usize, standing: Result<ReadOut, Refusal>) -> usize
     requires { at ≤ length out.old }
     ensures { Wrote out.old at out.new result (standing_text standing) }
 {
     match standing {
-        ReadOut::Nothing => put_bytes(out, at, b"standing outline: nothing, no cell is held\n"),
-        ReadOut::Closed => put_bytes(out, at, b"standing outline: closed, no edge stands\n"),
-        ReadOut::Outline(polygons, rings, _) => put_counts(out, at, polygons, rings),
-        ReadOut::Refused(number, _) => put_unread(out, at, number),
+        Ok(ReadOut::Nothing) => {
+            put_bytes(out, at, b"standing outline: nothing, no cell is held\n")
+        }
+        Ok(ReadOut::Closed) => put_bytes(out, at, b"standing outline: closed, no edge stands\n"),
+        Ok(ReadOut::Outline(polygons, rings, _)) => put_counts(out, at, polygons, rings),
+        Err(refusal) => put_unread(out, at, refusal.number()),
     }
 }
 
-fn put_afresh(out: &mut [u8], at: usize, same: bool) -> usize
-    requires { at ≤ length out.old }
-    ensures { Wrote out.old at out.new result (afresh_text same) }
+fn afresh_words(same: bool) -> &'static [u8]
+    ensures { result.now ≡ afresh_text same }
 {
     if same {
-        return put_bytes(
-            out,
-            at,
-            b"dissolved afresh from the accepted cells: the same\n",
-        );
+        return b"dissolved afresh from the accepted cells: the same\n";
     }
-    put_bytes(
-        out,
-        at,
-        b"dissolved afresh from the accepted cells: ANOTHER OUTLINE\n",
-    )
+    b"dissolved afresh from the accepted cells: ANOTHER OUTLINE\n"
 }
 
 // The points credited beyond one for each visit.
 fn points_over(visits: usize, counts: &[usize]) -> usize
     ensures { result ≡ points_over visits counts.now }
 {
-    let credited = count_at(counts, 0);
-    if visits < credited {
-        credited - visits
-    } else {
-        0
-    }
+    count_at(counts, 0).saturating_sub(visits)
 }
 
 // One visit to each held cell: the points without the check, and with it.
@@ -159,7 +142,7 @@ pub fn put_audit(
     at: usize,
     offered: usize,
     counts: &[usize],
-    standing: ReadOut,
+    standing: Result<ReadOut, Refusal>,
     same: bool,
     visits: usize,
 ) -> usize
@@ -168,6 +151,6 @@ pub fn put_audit(
 {
     let of_offers = put_offers(out, at, offered, counts);
     let of_standing = put_standing(out, of_offers, standing);
-    let of_afresh = put_afresh(out, of_standing, same);
+    let of_afresh = put_bytes(out, of_standing, afresh_words(same));
     put_points(out, of_afresh, visits, counts)
 }

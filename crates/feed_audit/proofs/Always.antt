@@ -12,13 +12,11 @@ use lib.Dec.{eqb}
 use lib.Ieee.{Float}
 use lib.ListN.{length}
 use borrow.Author.Tests.{eq-eqb}
-use Rattle.scope.specs.declared.Verdict.{Verdict}
-use Rattle.scope.specs.declared.Verdict.TheVariants.{Accepted, Refused}
-use Rattle.scope.specs.declared.ReadOut.{ReadOut}
-use Rattle.scope.specs.declared.ReadOut.TheVariants as readout
+use Rattle.std.specs.Prelude.{Err, Ok}
+use Rattle.scope.specs.declared.Refusal.TheVariants.{BadLengths}
 use Rattle.scope.specs.declared.ReadOut.TheVariants.{Nothing, Closed, Outline}
 use Rattle.scope.specs.Lists.{at, passes}
-use Rattle.scope.specs.Answers.{if_accepted, verdict_of, kind_of, polygons_of, rings_of}
+use Rattle.scope.specs.Answers.{if_accepted, verdict_of, kind_of, polygons_of, rings_of, Answer, Verdict}
 use Rattle.scope.specs.Bytes.{area_bits}
 use Rattle.scope.specs.Table.{Table, row_count}
 use Rattle.scope.specs.Memory.{Memory, Output, opened, held_cells, places, slots, lengths_fit, mode_fits, outputs_agree}
@@ -67,17 +65,17 @@ output_self o =
 self : (n : ℕ) → eqb n n ≡ true
 self n = eq-eqb n n refl
 
-answer_self : (r : ReadOut) → verdict_of r ≡ Accepted → same_answer r r ≡ true
+answer_self : (r : Answer) → verdict_of r ≡ Ok tt → same_answer r r ≡ true
 unfolding same_answer verdict_of kind_of polygons_of rings_of
-answer_self Nothing e = rw (self (area_bits Nothing))
-answer_self Closed e = rw (self (area_bits Closed))
-answer_self (Outline polygons rings area) e = rw (self polygons, self rings, self (area_bits (Outline polygons rings area)))
-answer_self (readout.Refused number index) e = refused_not e
+answer_self (Ok Nothing) e = rw (self (area_bits (Ok Nothing)))
+answer_self (Ok Closed) e = rw (self (area_bits (Ok Closed)))
+answer_self (Ok (Outline polygons rings area)) e = rw (self polygons, self rings, self (area_bits (Ok (Outline polygons rings area))))
+answer_self (Err why) e = refused_not e
 
 abbrev same_drawn : Drawn → Drawn → Bool
 same_drawn r s = same_answer r.answer s.answer && same_output r.out s.out
 
-pub same_self : (r : Drawn) → verdict_of r.answer ≡ Accepted → same_drawn r r ≡ true
+pub same_self : (r : Drawn) → verdict_of r.answer ≡ Ok tt → same_drawn r r ≡ true
 same_self r e = and_both _ _ (answer_self r.answer e) (output_self r.out)
 
 -- ---- offers leave the capacities
@@ -88,8 +86,8 @@ module _ (t : Table) where
   offer_sizes m x = go (offer_verdict t m x) refl
     where
       go : (v : Verdict) → offer_verdict t m x ≡ v → (places (if_accepted v (taking t m x) m) ≡ places m) × (slots (if_accepted v (taking t m x) m) ≡ slots m)
-      go Accepted e = (taken_room (offered t m x e), pool_same (offered t m x e))
-      go (Refused number index) e = (refl, refl)
+      go (Ok done) e = (taken_room (offered t m x e), pool_same (offered t m x e))
+      go (Err why) e = (refl, refl)
 
   feed_sizes : (m : Memory) (xs : List ℕ) → (places (left_by t m xs) ≡ places m) × (slots (left_by t m xs) ≡ slots m)
   unfolding left_by
@@ -114,7 +112,7 @@ module _ (t : Table) where
 
 -- ---- from a newly opened state
 
-module _ (t : Table) (m : Memory) (opens : open_verdict t m 2 ≡ Accepted) (xs : List ℕ) where
+module _ (t : Table) (m : Memory) (opens : open_verdict t m 2 ≡ Ok tt) (xs : List ℕ) where
   abbrev fresh : Memory
   fresh = opened 2 m
 
@@ -124,7 +122,7 @@ module _ (t : Table) (m : Memory) (opens : open_verdict t m 2 ≡ Accepted) (xs 
   abbrev taken : List ℕ
   taken = accepted_of t fresh xs
 
-  all_taken : (offering_all t fresh taken).answer ≡ Accepted
+  all_taken : (offering_all t fresh taken).answer ≡ Ok tt
   all_taken = ap (λ (o : Outcome). o.answer) (accepted_all t fresh xs)
 
   leaves_last : (offering_all t fresh taken).left ≡ last
@@ -136,9 +134,9 @@ module _ (t : Table) (m : Memory) (opens : open_verdict t m 2 ≡ Accepted) (xs 
   last_lengths : Lengths t last
   last_lengths = last_sound.lengths
 
-  opens_again : open_verdict t last 2 ≡ Accepted
+  opens_again : open_verdict t last 2 ≡ Ok tt
   unfolding open_verdict
-  opens_again = both_accept _ _ (require_accepts (lengths_fit t last && mode_fits 2) 10 0 (and_both _ _ (lengths_kept t last last_lengths) refl)) (open_table t m 2 opens)
+  opens_again = both_accept _ _ (require_accepts (lengths_fit t last && mode_fits 2) BadLengths (and_both _ _ (lengths_kept t last last_lengths) refl)) (open_table t m 2 opens)
 
   sized_last : Sized m last
   sized_last = let sizes = feed_sizes t fresh xs in sized_by t (open_lengths t m 2 opens) last_lengths (sizes.0 ∙ opened_places m 2) (sizes.1 ∙ opened_slots m 2)
@@ -149,10 +147,10 @@ module _ (t : Table) (m : Memory) (opens : open_verdict t m 2 ≡ Accepted) (xs 
   again_last : (offering_all t (opened 2 last) taken).left ≡ last
   again_last = ap (λ (k : Memory). (offering_all t k taken).left) same_opened ∙ leaves_last
 
-  again_taken : (offering_all t (opened 2 last) taken).answer ≡ Accepted
+  again_taken : (offering_all t (opened 2 last) taken).answer ≡ Ok tt
   again_taken = ap (λ (k : Memory). (offering_all t k taken).answer) same_opened ∙ all_taken
 
-  module _ (o : Output) (r : read_verdict t last o ≡ Accepted) where
+  module _ (o : Output) (r : read_verdict t last o ≡ Ok tt) where
     pub afresh_again : dissolving t last 2 (held_cells last) o ≡ reading_out t last o
     afresh_again =
         ap (λ (cs : List ℕ). dissolving t last 2 cs o) (held_are t m 2 opens xs)
@@ -163,13 +161,13 @@ module _ (t : Table) (m : Memory) (opens : open_verdict t m 2 ≡ Accepted) (xs 
     pub afresh_anew : drawn (dissolving t m 2 (held_cells last) o) ≡ drawn (reading_out t last o)
     afresh_anew = sym (dissolve_anew t 2 (held_cells last) o sized_last) ∙ ap (λ (d : Reading). drawn d) afresh_again
 
-    pub read_done : verdict_of (reading_out t last o).answer ≡ Accepted
+    pub read_done : verdict_of (reading_out t last o).answer ≡ Ok tt
     unfolding reading_out
     read_done = ap (λ (v : Verdict). verdict_of (reading v (read_from t last o) last o).answer) r ∙ read_accepts t (view t last)
 
 -- ---- in memory of full size
 
-module _ (t : Table) (opens : open_verdict t (full_memory t) 2 ≡ Accepted) (xs : List ℕ) (o : Output) where
+module _ (t : Table) (opens : open_verdict t (full_memory t) 2 ≡ Ok tt) (xs : List ℕ) (o : Output) where
   -- what is said of what stands
   abbrev judged : Standing → Bool
   judged s = (comparing t s.cells s.answer s.out o).same
@@ -177,7 +175,7 @@ module _ (t : Table) (opens : open_verdict t (full_memory t) 2 ≡ Accepted) (xs
   abbrev stays : Memory
   stays = left_by t (opened 2 (full_memory t)) xs
 
-  same_read : read_verdict t stays o ≡ Accepted → (auditing t xs o o).same ≡ true
+  same_read : read_verdict t stays o ≡ Ok tt → (auditing t xs o o).same ≡ true
   unfolding auditing standing reading_fed beginning comparing drawing opening feeding
   same_read r =
       ap (λ (v : Verdict). judged (after t xs o (outcome v (opened 2 (full_memory t)) (full_memory t)))) opens
@@ -186,4 +184,4 @@ module _ (t : Table) (opens : open_verdict t (full_memory t) 2 ≡ Accepted) (xs
       ∙ same_self (drawn (reading_out t stays o)) (read_done t (full_memory t) opens xs o r)
 
   pub always_same : outputs_agree o ≡ true → row_count t ≤ 2 * length o.start → row_count t ≤ 2 * length o.edges → (auditing t xs o o).same ≡ true
-  always_same agree records rows = same_read (read_enough t o records rows stays ∙ both_accept _ _ (require_accepts (outputs_agree o) 10 0 agree) (state_sound (last_sound t (full_memory t) opens xs)))
+  always_same agree records rows = same_read (read_enough t o records rows stays ∙ both_accept _ _ (require_accepts (outputs_agree o) BadLengths agree) (state_sound (last_sound t (full_memory t) opens xs)))

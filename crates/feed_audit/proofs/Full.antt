@@ -7,9 +7,10 @@ use mathlib.Core.Path.{◌≡◌, refl, sym, ◌∙◌, ap, ap₂}
 use mathlib.Core.Bool.{Bool, true, false, ◌&&◌}
 use mathlib.Core.List.{List, []}
 use lib.ListN.{take}
-use Rattle.scope.specs.declared.Verdict.{Verdict}
-use Rattle.scope.specs.declared.Verdict.TheVariants.{Accepted, Refused}
-use Rattle.scope.specs.Answers.{require, ◌▷◌, if_accepted}
+use Rattle.scope.specs.declared.Refusal.{Refusal}
+use Rattle.scope.specs.declared.Refusal.TheVariants.{BrokenState, BadLengths}
+use Rattle.std.specs.Prelude.{Err, Ok}
+use Rattle.scope.specs.Answers.{require, ◌▷◌, if_accepted, Verdict}
 use Rattle.scope.specs.Table.{Table, table_verdict}
 use Rattle.scope.specs.Memory.{Memory, Output, opened, held, held_cells, lengths_fit, outputs_agree}
 use Rattle.scope.specs.Rules.{rules_kept}
@@ -24,12 +25,12 @@ use Rattle.full_size.proofs.Anew.{same_lengths, Full, full_sized}
 use Rattle.feed_audit.specs.Audit.{beginning, reading_fed, Standing, stood}
 
 -- where an opening is refused, no state is looked at
-unread : (o : Output) (a b : Bool) (v w w' x x' : Verdict) (d d' : Reading) (k k' : Memory) {number index : ℕ} → (require (b && true) 10 0 ▷ v) ≡ Refused number index
-    → drawn (reading (require a 10 0 ▷ ((require b 10 0 ▷ v ▷ w) ▷ x)) d k o) ≡ drawn (reading (require a 10 0 ▷ ((require b 10 0 ▷ v ▷ w') ▷ x')) d' k' o)
+unread : (o : Output) (a b : Bool) (v w w' x x' : Verdict) (d d' : Reading) (k k' : Memory) {why : Refusal} → (require (b && true) BadLengths ▷ v) ≡ Err why
+    → drawn (reading (require a BadLengths ▷ ((require b BadLengths ▷ v ▷ w) ▷ x)) d k o) ≡ drawn (reading (require a BadLengths ▷ ((require b BadLengths ▷ v ▷ w') ▷ x')) d' k' o)
 unread o false b v w w' x x' d d' k k' e = refl
 unread o true false v w w' x x' d d' k k' e = refl
-unread o true true Accepted w w' x x' d d' k k' e = refused_not (sym e)
-unread o true true (Refused number index) w w' x x' d d' k k' e = refl
+unread o true true (Ok done) w w' x x' d d' k k' e = refused_not (sym e)
+unread o true true (Err why) w w' x x' d d' k k' e = refl
 
 -- what stands after an opening
 abbrev pub after : Table → List ℕ → Output → Outcome → Standing
@@ -43,22 +44,22 @@ module _ (t : Table) (xs : List ℕ) (o : Output) {m₀ m : Memory} (s : Sized m
   unfolding open_verdict
   same_opening = rw (same_lengths t s)
 
-  refused_read : {number index : ℕ} → open_verdict t m₀ 2 ≡ Refused number index → drawn (reading_out t m o) ≡ drawn (reading_out t m₀ o)
+  refused_read : {why : Refusal} → open_verdict t m₀ 2 ≡ Err why → drawn (reading_out t m o) ≡ drawn (reading_out t m₀ o)
   unfolding open_verdict reading_out read_verdict state_verdict
   refused_read e = rw (same_lengths t s)
-      (unread o (outputs_agree o) (lengths_fit t m₀) (table_verdict t) (require (rules_kept t m) 9 0) (require (rules_kept t m₀) 9 0) (require (output_fits (view t m) o) 10 0)
-      (require (output_fits (view t m₀) o) 10 0) (read_from t m o) (read_from t m₀ o) m m₀ e)
+      (unread o (outputs_agree o) (lengths_fit t m₀) (table_verdict t) (require (rules_kept t m) BrokenState) (require (rules_kept t m₀) BrokenState) (require (output_fits (view t m) o) BadLengths)
+      (require (output_fits (view t m₀) o) BadLengths) (read_from t m o) (read_from t m₀ o) m m₀ e)
 
   none_read : (k : Memory) → held k ≡ 0 → held_cells (reading_out t k o).left ≡ []
   none_read k none = ap (λ (l : Memory). held_cells l) (read_leaves t k o) ∙ ap (λ (n : ℕ). take n k.cells) none
 
-  abbrev refused_with : ℕ → ℕ → List ℕ → Drawn → Standing
-  refused_with number index cs d = record { opened = Refused number index; counts = tally []; cells = cs; answer = d.answer; out = d.out }
+  abbrev refused_with : Refusal → List ℕ → Drawn → Standing
+  refused_with why cs d = record { opened = Err why; counts = tally []; cells = cs; answer = d.answer; out = d.out }
 
   by_verdict : (v : Verdict) → open_verdict t m₀ 2 ≡ v → after t xs o (outcome v (opened 2 m) m) ≡ after t xs o (outcome v (opened 2 m₀) m₀)
   unfolding feeding verdicts left_by
-  by_verdict Accepted e = ap (λ (k : Memory). after t xs o (record { answer = Accepted; left = k })) (opened_same 2 s)
-  by_verdict (Refused number index) e = ap₂ (refused_with number index) (none_read m z ∙ sym (none_read m₀ z₀)) (refused_read e)
+  by_verdict (Ok done) e = ap (λ (k : Memory). after t xs o (record { answer = Ok tt; left = k })) (opened_same 2 s)
+  by_verdict (Err why) e = ap₂ (refused_with why) (none_read m z ∙ sym (none_read m₀ z₀)) (refused_read e)
 
   pub same_standing : stood (reading_fed t m xs o) ≡ stood (reading_fed t m₀ xs o)
   unfolding reading_fed beginning opening

@@ -2,9 +2,7 @@
 -- cells are dissolved afresh and the two compared. What comes of it depends on the table, the feed and the lent outputs alone.
 -- Assumes nothing.
 use Rattle.std.specs.Prelude.{ℕ, Bool, ◌&&◌, List, [], length}
-use Rattle.scope.specs.declared.Verdict.{Verdict}
-use Rattle.scope.specs.declared.ReadOut.{ReadOut}
-use Rattle.scope.specs.Answers.{if_accepted}
+use Rattle.scope.specs.Answers.{if_accepted, Answer, Verdict}
 use Rattle.scope.specs.Table.{Table}
 use Rattle.scope.specs.Memory.{Memory, Output, held_cells}
 use Rattle.scope.specs.Calls.{opening, reading_out}
@@ -27,7 +25,7 @@ beginning t m xs =
 pub record FedRead : Type 0 where
   pub opened : Verdict
   pub counts : List ℕ
-  pub answer : ReadOut
+  pub answer : Answer
   pub left : Memory
   pub out : Output
 
@@ -46,7 +44,7 @@ pub record Standing : Type 0 where
   pub counts : List ℕ
   -- the held cells, in the order of their acceptance
   pub cells : List ℕ
-  pub answer : ReadOut
+  pub answer : Answer
   pub out : Output
 
 abbrev pub stood : FedRead → Standing
@@ -60,7 +58,7 @@ pub record Compared : Type 0 where
   pub anew : Output
 
 -- Cells dissolved afresh, and whether that gives the answer r and the output o.
-unfoldable pub comparing : Table → List ℕ → ReadOut → Output → Output → Compared
+unfoldable pub comparing : Table → List ℕ → Answer → Output → Output → Compared
 comparing t cs r o p =
     let again = drawing t 2 cs p in
     record { same = same_answer r again.answer && same_output o again.out; anew = again.out }
@@ -72,7 +70,7 @@ pub record Audit : Type 0 where
   pub counts : List ℕ
   -- one visit to each held cell
   pub visits : ℕ
-  pub answer : ReadOut
+  pub answer : Answer
   -- the outline dissolved afresh is the standing one
   pub same : Bool
   pub out : Output

@@ -4,18 +4,17 @@
 
 pub mod fed;
 
-ghost use Rattle.std.specs.Prelude.{◌≡◌, replicate};
-ghost use Rattle.scope.specs.Table.{table};
-ghost use Rattle.scope.specs.Memory.{output};
+ghost use Rattle.std.specs.Prelude.{◌≡◌};
+ghost use Rattle.lent.specs.Lent.{table_of, output_of, drawn_of, SameOutput};
 ghost use Rattle.feed_audit.specs.Audit.{Compared, comparing, Audit, auditing};
 
 use audit::same::{same_answer, same_output};
-use desk::arrays::place_words;
-use fed::{Answers, stand};
-use full_size::dissolve_list;
-use scope::ReadOut;
+use fed::{Answers, NO_MODE, stand};
+use full_size::{PLACES, dissolve_list};
+use lent::{Drawn, Output, Table};
+use scope::{ReadOut, Refusal};
 
-// The answers of opening and read out, one visit to each held cell, and whether the cells dissolved afresh give the same.
+// The answers of the calls, one visit to each held cell, and whether the cells dissolved afresh give the same.
 #[derive(Clone, Copy)]
 pub struct Audited {
     pub answers: Answers,
@@ -25,83 +24,45 @@ pub struct Audited {
 
 // Dissolves the cells afresh, naming no mode, and says whether that gives the answer and the output that stand.
 fn same_anew(
-    edges: &[u64],
-    reverse: &[u32],
-    area: &[f64],
+    table: &Table<'_>,
     cells: &[u64],
-    standing: ReadOut,
-    start: &[u32],
-    size: &[u32],
-    group: &[u32],
-    ring_area: &[f64],
-    ring_edges: &[u32],
-    anew_start: &mut [u32],
-    anew_size: &mut [u32],
-    anew_group: &mut [u32],
-    anew_area: &mut [f64],
-    anew_edges: &mut [u32],
+    standing: Result<ReadOut, Refusal>,
+    drawn: &Drawn<'_>,
+    anew: &mut Output<'_>,
 ) -> bool
-    ensures { record { same = result; anew = output anew_start.new anew_size.new anew_group.new anew_area.new anew_edges.new }
-        ≡ comparing (table edges.now reverse.now area.now) cells.now standing (output start.now size.now group.now ring_area.now ring_edges.now) (output anew_start.old anew_size.old anew_group.old anew_area.old anew_edges.old) }
+    ensures same_output { SameOutput anew.old anew.new }
+    ensures compares { record { same = result; anew = output_of anew.new }
+        ≡ comparing (table_of table.now) cells.now standing (drawn_of drawn.now) (output_of anew.old) }
 {
-    let again = dissolve_list(
-        edges, reverse, area, cells, anew_start, anew_size, anew_group, anew_area, anew_edges, 2,
-    );
-    same_answer(standing, again)
-        & same_output(
-            start, size, group, ring_area, ring_edges, anew_start, anew_size, anew_group,
-            anew_area, anew_edges,
-        )
+    let again = dissolve_list(table, cells, anew, NO_MODE);
+    same_answer(standing, again) & same_output(drawn, &anew.as_drawn())
 }
 
-// Audits a feed. The offers are counted in eleven zeros.
+// Audits a feed.
 pub fn audit(
-    edges: &[u64],
-    reverse: &[u32],
-    area: &[f64],
+    table: &Table<'_>,
     feed: &[u64],
-    counts: &mut [usize],
-    start: &mut [u32],
-    size: &mut [u32],
-    group: &mut [u32],
-    ring_area: &mut [f64],
-    ring_edges: &mut [u32],
-    anew_start: &mut [u32],
-    anew_size: &mut [u32],
-    anew_group: &mut [u32],
-    anew_area: &mut [f64],
-    anew_edges: &mut [u32],
+    output: &mut Output<'_>,
+    anew: &mut Output<'_>,
 ) -> Audited
-    requires { counts.old ≡ replicate 11 0 }
-    ensures { record { opened = result.answers.opened; counts = counts.new; visits = result.visits; answer = result.answers.standing; same = result.same; out = output start.new size.new group.new ring_area.new ring_edges.new; anew = output anew_start.new anew_size.new anew_group.new anew_area.new anew_edges.new }
-        ≡ auditing (table edges.now reverse.now area.now) feed.now (output start.old size.old group.old ring_area.old ring_edges.old) (output anew_start.old anew_size.old anew_group.old anew_area.old anew_edges.old) }
+    ensures same_output { SameOutput output.old output.new }
+    ensures same_anew { SameOutput anew.old anew.new }
+    ensures audits { record { opened = result.answers.opened; counts = result.answers.counts; visits = result.visits; answer = result.answers.standing; same = result.same; out = output_of output.new; anew = output_of anew.new }
+        ≡ auditing (table_of table.now) feed.now (output_of output.old) (output_of anew.old) }
 {
-    let mut list = place_words();
-    let stood = stand(
-        edges, reverse, area, feed, counts, &mut list, start, size, group, ring_area, ring_edges,
-    );
+    let mut list = [0; PLACES];
+    let stood = stand(table, feed, &mut list, output);
     let answers = stood.answers;
-    let standing = answers.standing;
     let same = same_anew(
-        edges,
-        reverse,
-        area,
-        &list[..stood.held],
-        standing,
-        start,
-        size,
-        group,
-        ring_area,
-        ring_edges,
-        anew_start,
-        anew_size,
-        anew_group,
-        anew_area,
-        anew_edges,
+        table,
+        stood.cells,
+        answers.standing,
+        &output.as_drawn(),
+        anew,
     );
     Audited {
         answers,
-        visits: stood.held,
+        visits: stood.cells.len(),
         same,
     }
 }

@@ -1,14 +1,9 @@
 -- The loop of `audit::feed::offer_all`.
-use Prim.Native.Nat.{◌-◌}
-use lib.ListN.{length}
-use Rattle.scope.specs.Table.{table}
-use Rattle.scope.specs.Memory.{memory}
+use Rattle.lent.specs.Lent.{table_of, memory_of, SameMemory, SameMarks}
 use Rattle.audit.proofs.Feeding.{InFeed}
 use Rattle.audit.proofs.feed.offer_all.Given as goal
 
-abbrev pub invariant-loop-i : goal.invariant-loop-i
-invariant-loop-i l =
-    InFeed (table l.edges l.reverse l.area) (memory l.initial.head l.initial.cells l.initial.parent l.initial.rank l.initial.cell_mark l.initial.slot_row l.initial.slot_cell l.initial.prev l.initial.next l.initial.row_slot l.initial.row_mark) l.feed (memory l.head l.cells l.parent l.rank l.cell_mark l.slot_row l.slot_cell l.prev l.next l.row_slot l.row_mark) l.counts l.i
-
-abbrev pub decreases-loop-i : goal.decreases-loop-i
-decreases-loop-i l = length l.feed - l.i
+abbrev pub invariant-loop-cell : goal.invariant-loop-cell
+invariant-loop-cell l =
+    InFeed (table_of l.table) (memory_of l.initial.memory l.initial.marks) l.feed (memory_of l.memory l.marks) l.counts l.cell-index
+    × SameMemory l.initial.memory l.memory × SameMarks l.initial.marks l.marks

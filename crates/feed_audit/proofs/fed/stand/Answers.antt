@@ -1,33 +1,21 @@
 -- `feed_audit::fed::stand` meets its contract. The memory is of full size and holds no cell.
 -- Assumes nothing.
 use native.Mathlib.Omega.{arith}
-use mathlib.Core.Path.{refl, sym, ◌∙◌}
-use lib.Seq.{length-take-le}
-use Rattle.desk.proofs.Zeros.{zeros_long}
-use Rattle.full_size.proofs.Anew.{lent_rows}
+use mathlib.Core.Path.{◌∙◌}
+use Rattle.lent.specs.Lent.{table_of}
+use Rattle.full_size.proofs.Anew.{lent_full}
+use Rattle.feed_audit.proofs.Held.{full_head, full_cells}
 use Rattle.feed_audit.proofs.Whole.{stand_is}
 use Rattle.feed_audit.proofs.fed.stand.Goals as goal
 
-pub slice_bounds-read_fed-end-10 : goal.slice_bounds-read_fed-end-10
-slice_bounds-read_fed-end-10 c = sym (length-take-le _ _ (let few = c.rows_lent-rows.ensures.1 in omega (arith, few, zeros_long 65536 c.row_numbers-row_slot.ensures)))
+pub copy_held-requires : goal.copy_held-requires
+copy_held-requires c =
+    let t = table_of c.args.table.now in
+    omega (arith, c.read_fed-answers.ensures.same_memory.head_length, full_head t (lent_full t c.lend-memory.ensures c.sizes_for.ensures))
 
-pub slice_bounds-read_fed-end-11 : goal.slice_bounds-read_fed-end-11
-slice_bounds-read_fed-end-11 c = sym (length-take-le _ _ (let few = c.rows_lent-rows.ensures.1 in omega (arith, few, zeros_long 65536 c.row_numbers-row_mark.ensures)))
-
-pub returns : goal.returns
-returns c = (
-  stand_is _ _ _ _ _ c.read_fed-answers.ensures (record {
-    head = refl;
-    cells = zeros_long 16384 c.place_words-cells.ensures;
-    parent = zeros_long 16384 c.place_numbers-parent.ensures;
-    rank = zeros_long 16384 c.place_numbers-rank.ensures;
-    cell_mark = zeros_long 16384 c.place_numbers-cell_mark.ensures;
-    slot_row = zeros_long 65536 c.slot_numbers-slot_row.ensures;
-    slot_cell = zeros_long 65536 c.slot_numbers-slot_cell.ensures;
-    prev = zeros_long 65536 c.slot_numbers-prev.ensures;
-    next = zeros_long 65536 c.slot_numbers-next.ensures;
-    row_slot = lent_rows _ _ _ c.rows_lent-rows.ensures (zeros_long 65536 c.row_numbers-row_slot.ensures);
-    row_mark = lent_rows _ _ _ c.rows_lent-rows.ensures (zeros_long 65536 c.row_numbers-row_mark.ensures);
-  }) refl c.requires.1 (zeros_long 16384 c.place_words-cells.ensures ∙ sym c.read_fed-answers.auto.cells) (c.copy_held-held.ensures.0, c.copy_held-held.ensures.1),
-  c.copy_held-held.ensures.2,
-)
+pub returns-clause-stands : goal.returns-clause-stands
+returns-clause-stands c =
+    let t = table_of c.args.table.now in
+    let full = lent_full t c.lend-memory.ensures c.sizes_for.ensures in
+    let fed = c.read_fed-answers.ensures in
+    stand_is t _ _ _ full fed.reads_fed c.requires (fed.same_memory.cells_length ∙ full_cells t full) c.copy_held.ensures

@@ -5,25 +5,26 @@
 
 mod zone;
 
-use arguments::{Begun, argument, begin};
-use command_line::line::Line;
+use arguments::{argument, begin};
+use command_line::line::Command;
 use command_line::tools::Tool;
-use desk::arrays::{place_lines, place_words, row_floats, row_numbers, row_words, text_bytes};
+use desk::arrays::{PLACES, ROWS, TEXT, zeros};
+use desk::load_cells;
 use desk::tables::load_sound_table;
 use desk::words::say_report;
-use desk::{Loaded, load_cells};
+use lent::Table;
 use std::rt::{Env, Files};
 use zone::draw_zone;
 
 // Loads the two files and, where both can be taken, prints the outline of the cells over the table.
 fn outline<R: Files>(rt: &R, table_name: &[u8], list_name: &[u8], mode: usize, by_row: bool) {
-    let mut text = text_bytes();
-    let mut edges = row_words();
-    let mut reverse = row_numbers();
-    let mut area = row_floats();
-    let mut cells = place_words();
-    let mut lines = place_lines();
-    let Loaded::Count(rows) = load_sound_table(
+    let mut text = zeros::<u8, TEXT>();
+    let mut edges = zeros::<u64, ROWS>();
+    let mut reverse = zeros::<u32, ROWS>();
+    let mut area = zeros::<f64, ROWS>();
+    let mut cells = zeros::<u64, PLACES>();
+    let mut lines = zeros::<usize, PLACES>();
+    let Some(rows) = load_sound_table(
         rt,
         table_name,
         &mut text,
@@ -33,16 +34,19 @@ fn outline<R: Files>(rt: &R, table_name: &[u8], list_name: &[u8], mode: usize, b
     ) else {
         return;
     };
-    let Loaded::Count(count) = load_cells(rt, list_name, &mut text, &mut cells, &mut lines) else {
+    let Some(count) = load_cells(rt, list_name, &mut text, &mut cells, &mut lines) else {
         return;
+    };
+    let table = Table {
+        edges: &edges[..rows],
+        reverse: &reverse[..rows],
+        area: &area[..rows],
     };
     let report = draw_zone(
         table_name,
         list_name,
         &mut text,
-        &edges[..rows],
-        &reverse[..rows],
-        &area[..rows],
+        &table,
         &cells[..count],
         &lines[..count],
         mode,
@@ -51,23 +55,23 @@ fn outline<R: Files>(rt: &R, table_name: &[u8], list_name: &[u8], mode: usize, b
     say_report(&text, report);
 }
 
-fn run<R: Files + Env>(rt: &R, line: Line) {
+fn run<R: Files + Env>(rt: &R, command: Command) {
     let mut table_name = io::buffer();
     let mut list_name = io::buffer();
-    let table_size = argument(rt, line.table, &mut table_name);
-    let list_size = argument(rt, line.list, &mut list_name);
+    let table_size = argument(rt, command.table, &mut table_name);
+    let list_size = argument(rt, command.list, &mut list_name);
     outline(
         rt,
         &table_name[..table_size],
         &list_name[..list_size],
-        line.mode,
-        line.rows,
+        command.mode.number(),
+        command.rows,
     );
 }
 
 fn main(rt: HostRuntime) {
-    let Begun::Ready(line) = begin(&rt, Tool::Outline) else {
+    let Some(command) = begin(&rt, Tool::Outline) else {
         return;
     };
-    run(&rt, line);
+    run(&rt, command);
 }

@@ -1,16 +1,16 @@
 // A list of cells dissolved in memory of full size, and the report of what came of it.
 ghost use Rattle.std.specs.Prelude.{◌≡◌, length};
-ghost use Rattle.scope.specs.Table.{table};
-ghost use Rattle.scope.specs.Memory.{output};
+ghost use Rattle.lent.specs.Lent.{table_of, output_of, SameOutput};
 ghost use Rattle.full_size.specs.Drawing.{drawing};
 ghost use Rattle.desk.specs.Outputs.{new_output};
 ghost use Rattle.desk.specs.Reports.{Page};
 ghost use Rattle.outline.specs.Zones.{Reported, zone_in};
 
-use answers::is_done;
-use desk::arrays::{edge_numbers, ring_floats, ring_numbers};
+use desk::arrays::{EDGES, RINGS};
 use desk::reports::{Report, in_room};
 use full_size::dissolve_list;
+use lent::arrays::OutputArrays;
+use lent::{Output, Table};
 use report::zones::put_outline;
 
 // `lines` are those of the cells in their file; `by_row` has the edges named by their rows.
@@ -18,26 +18,17 @@ fn report_zone(
     table_name: &[u8],
     list_name: &[u8],
     text: &mut [u8],
-    edges: &[u64],
-    reverse: &[u32],
-    area: &[f64],
+    table: &Table<'_>,
     cells: &[u64],
     lines: &[usize],
-    start: &mut [u32],
-    size: &mut [u32],
-    group: &mut [u32],
-    ring_area: &mut [f64],
-    ring_edges: &mut [u32],
+    output: &mut Output<'_>,
     mode: usize,
     by_row: bool,
 ) -> Report
-    ensures { Reported table_name.now list_name.now (length cells.now) lines.now edges.now by_row
-        (drawing (table edges.now reverse.now area.now) mode cells.now (output start.old size.old group.old ring_area.old ring_edges.old))
-        text.old text.new (output start.new size.new group.new ring_area.new ring_edges.new) result }
+    ensures { Reported table_name.now list_name.now (length cells.now) lines.now table.now.edges.now by_row
+        (drawing (table_of table.now) mode cells.now (output_of output.old)) text.old text.new (output_of output.new) result }
 {
-    let answer = dissolve_list(
-        edges, reverse, area, cells, start, size, group, ring_area, ring_edges, mode,
-    );
+    let answer = dissolve_list(table, cells, output, mode);
     let end = put_outline(
         text,
         0,
@@ -45,19 +36,12 @@ fn report_zone(
         list_name,
         cells.len(),
         lines,
-        edges,
+        table.edges,
         by_row,
         answer,
-        start,
-        size,
-        group,
-        ring_area,
-        ring_edges,
+        &output.as_drawn(),
     );
-    Report {
-        size: end,
-        done: is_done(answer),
-    }
+    answer.map(|_| end).map_err(|_| end)
 }
 
 // The same in new outputs of full size, as it can be printed.
@@ -65,36 +49,25 @@ pub fn draw_zone(
     table_name: &[u8],
     list_name: &[u8],
     text: &mut [u8],
-    edges: &[u64],
-    reverse: &[u32],
-    area: &[f64],
+    table: &Table<'_>,
     cells: &[u64],
     lines: &[usize],
     mode: usize,
     by_row: bool,
 ) -> Report
     ensures { record { text = text.new; report = result }
-        ≡ zone_in text.old table_name.now list_name.now (length cells.now) lines.now edges.now by_row (drawing (table edges.now reverse.now area.now) mode cells.now new_output) }
+        ≡ zone_in text.old table_name.now list_name.now (length cells.now) lines.now table.now.edges.now by_row (drawing (table_of table.now) mode cells.now new_output) }
 {
-    let mut start = ring_numbers();
-    let mut size = ring_numbers();
-    let mut group = ring_numbers();
-    let mut ring_area = ring_floats();
-    let mut ring_edges = edge_numbers();
+    let mut arrays = OutputArrays::<RINGS, EDGES>::new();
+    let mut output = arrays.lend(RINGS, EDGES);
     let report = report_zone(
         table_name,
         list_name,
         text,
-        edges,
-        reverse,
-        area,
+        table,
         cells,
         lines,
-        &mut start,
-        &mut size,
-        &mut group,
-        &mut ring_area,
-        &mut ring_edges,
+        &mut output,
         mode,
         by_row,
     );

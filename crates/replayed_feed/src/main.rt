@@ -4,20 +4,20 @@
 
 mod show;
 
-ghost use Rattle.std.specs.Prelude.{◌+◌, ◌*◌, ◌≤◌, length};
+ghost use Rattle.std.specs.Prelude.{◌*◌, ◌≤◌, length};
 
 use byte_calls::{dissolve, standing};
-use check::same;
-use codec::write_u64;
+use codec::ToBytes;
 use files::read_file;
-use show::{show_alike, show_file, show_offer, show_reading, show_title};
+use show::{Answer, ReadOut, Table};
 
-// Calls on a standing state.
-const OPEN: u32 = 0;
-
-const OFFER: u32 = 1;
-
-const READ_OUT: u32 = 2;
+// The calls on a standing state, by their numbers.
+#[derive(Clone, Copy, Debug, PartialEq, Eq)]
+enum Call {
+    Open,
+    Offer,
+    ReadOut,
+}
 
 const EVEN: u32 = 0;
 
@@ -50,27 +50,9 @@ const FEED: [u64; 12] = [
     0x0892_8308_280f_ffff,
 ];
 
-// Keeps a cell that was accepted at the end of a list in bytes: where the list ends then.
-fn keep(accepted: &mut [u8], end: usize, cell: u64, res: u64) -> usize
-    requires { end + 8 ≤ length accepted.old }
-    ensures { result ≤ end + 8 }
-{
-    if res != 0 {
-        return end;
-    }
-    write_u64(accepted, end, cell);
-    end + 8
-}
-
-fn offer(table: &[u8], state: &mut [u8], slots: u32, cell: u64) -> u64 {
-    let mut out = [0u8; 24];
-    let result = standing(table, state, &mut out, slots, PLACES, OFFER, cell);
-    show_offer(cell, result);
-    result
-}
-
 // Offers the cells of a feed in turn and keeps those that are accepted: where their list ends.
-fn offer_each(
+fn offer_each<R: Print>(
+    rt: &R,
     table: &[u8],
     state: &mut [u8],
     accepted: &mut [u8],
@@ -80,51 +62,81 @@ fn offer_each(
     requires { 8 * length feed.now ≤ length accepted.old }
     ensures { result ≤ 8 * length feed.now }
 {
-    let mut end: usize = 0;
-    let mut i: usize = 0;
-    while i < feed.len() {
-        let cell = feed[i];
-        let result = offer(table, state, slots, cell);
-        end = keep(accepted, end, cell, result);
-        i += 1;
+    let mut out = [0u8; 24];
+    let mut end = 0;
+    for &cell in feed {
+        let result = standing(
+            table,
+            state,
+            &mut out,
+            slots,
+            PLACES,
+            Call::Offer as u32,
+            cell,
+        );
+        let answer = Answer(result);
+        let _ = println!(rt; "{cell:016x} {answer}");
+        if result == 0 {
+            cell.write(accepted, end);
+            end += 8;
+        }
     }
     end
 }
 
 // A feed offered to a state that is newly opened, then read out.
-fn replay_in(table: &[u8], state: &mut [u8], feed: &[u64], slots: u32)
+fn replay_in<R: Print>(rt: &R, table: &[u8], state: &mut [u8], feed: &[u64], slots: u32)
     requires { length feed.now ≤ 12 }
 {
     let mut accepted = [0u8; 96];
     let mut out = [0u8; 256];
     let mut again = [0u8; 256];
-    standing(table, state, &mut out, slots, PLACES, OPEN, 0);
-    let end = offer_each(table, state, &mut accepted, feed, slots);
-    let read = standing(table, state, &mut out, slots, PLACES, READ_OUT, 0);
+    standing(table, state, &mut out, slots, PLACES, Call::Open as u32, 0);
+    let end = offer_each(rt, table, state, &mut accepted, feed, slots);
+    let read = standing(
+        table,
+        state,
+        &mut out,
+        slots,
+        PLACES,
+        Call::ReadOut as u32,
+        0,
+    );
     let dissolved = dissolve(table, &accepted[..end], &mut again, EVEN, slots, PLACES);
-    show_reading(read, &out);
-    show_alike((read == dissolved) & same(&out, &again));
+    let answer = Answer(read);
+    if read == 0 {
+        let outline = ReadOut { bytes: &out };
+        let _ = println!(rt; "read out {answer}: {outline}");
+    } else {
+        let _ = println!(rt; "read out {answer}");
+    }
+    let same = if read == dissolved && out == again {
+        "the same"
+    } else {
+        "other"
+    };
+    let _ = println!(rt; "dissolving the accepted cells gives {same} bytes");
 }
 
 // The state of 60 rows, 7 places and so many slots has 628 + 16 * slots bytes.
-fn replay(table: &[u8], title: &[u8], feed: &[u64], slots: u32)
+fn replay<R: Print>(rt: &R, table: &[u8], title: &str, feed: &[u64], slots: u32)
     requires { (length feed.now ≤ 12) × (slots ≤ 30) }
 {
     let mut state = [0u8; 1108];
     let size = 628 + 16 * slots as usize;
-    show_title(title, slots);
-    replay_in(table, &mut state[..size], feed, slots);
+    let _ = println!(rt; "{title}, slots {slots}");
+    replay_in(rt, table, &mut state[..size], feed, slots);
 }
 
 fn main(rt: HostRuntime) {
     let mut table = [0u8; 1200];
     let seven = SEVEN;
     let feed = FEED;
-    let read = read_file(&rt, b"seven_r9.table", &mut table);
-    show_file(read);
-    replay(&table, b"T8", &seven[..6], 27);
-    replay(&table, b"T8", &seven[..6], 28);
-    replay(&table, b"T9", &seven, 29);
-    replay(&table, b"T9", &seven, 30);
-    replay(&table, b"a replayed feed", &feed, 30);
+    let read = Table(read_file(&rt, b"seven_r9.table", &mut table));
+    let _ = println!(rt; "{read}");
+    replay(&rt, &table, "T8", &seven[..6], 27);
+    replay(&rt, &table, "T8", &seven[..6], 28);
+    replay(&rt, &table, "T9", &seven, 29);
+    replay(&rt, &table, "T9", &seven, 30);
+    replay(&rt, &table, "a replayed feed", &feed, 30);
 }

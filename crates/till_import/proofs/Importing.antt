@@ -13,24 +13,23 @@ use native.Mathlib.Omega.{arith}
 use borrow.Author.Tests.{lt-ltb, le-ltb}
 use lib.ListN.{length}
 use lib.Seq.{sets, length-sets}
-use Rattle.scope.specs.declared.ReadOut.{ReadOut}
-use Rattle.scope.specs.Answers.{is_accepted, verdict_of}
+use Rattle.scope.specs.declared.Refusal.{Refusal}
+use Rattle.scope.specs.Answers.{Answer}
 use Rattle.scope.specs.Table.{Table}
 use Rattle.scope.specs.Memory.{Output}
 use Rattle.scope.proofs.Tests.{le_or_lt}
-use Rattle.desk.specs.declared.reports.Report.{Report}
+use Rattle.std.specs.Prelude.{Ok, Err, is_ok}
 use Rattle.desk.specs.Outputs.{new_output}
-use Rattle.desk.specs.Reports.{Page, in_room, report_in}
-use Rattle.desk.proofs.Pages.{filled}
-use Rattle.zone_lines.specs.declared.Told.{Told}
-use Rattle.zone_lines.specs.declared.Told.TheVariants.{Answer, Refusal}
+use Rattle.desk.specs.Reports.{Report, report_of as reportOf, Page, in_room, report_in}
+use Rattle.desk.proofs.Pages.{size_told, filled}
+use Rattle.zone_lines.specs.declared.Untold.TheVariants.{Refused}
 use Rattle.zone_lines.specs.Zones.{zone_text}
-use Rattle.zone_lines.specs.Telling.{told_by, Tells}
+use Rattle.zone_lines.specs.Telling.{Told, told_by, Tells}
 use Rattle.zone_lines.proofs.Determined.{tells_one}
 use Rattle.full_size.specs.Drawing.{Drawn, drawing}
 use Rattle.till_import.specs.Imports.{no_mode, Imported, report_of, zone_in}
 
-pub imported : {table list : List ℕ} {cells : ℕ} {lines edges : List ℕ} {zone : Drawn} {answer : ReadOut} {o : Output} {before after : List ℕ} {told : Told}
+pub imported : {table list : List ℕ} {cells : ℕ} {lines edges : List ℕ} {zone : Drawn} {answer : Answer} {o : Output} {before after : List ℕ} {told : Told}
     → record { answer = answer; out = o } ≡ zone → Tells table list cells lines edges answer o before after told → Imported table list cells lines edges zone o before after told
 imported {table} {list} {cells} {lines} {edges} {before = before} {after = after} {told = told} e t = record {
   out = ap (λ (d : Drawn). d.out) e;
@@ -46,15 +45,15 @@ imported_one table list cells lines edges zone before p q =
 
 -- ---- what was told, as a report
 
-counted : (n room : ℕ) (done : Bool) → report_of (cond done (Answer n) (Refusal n)) room ≡ record { size = n; done = done }
+counted : (n room : ℕ) (done : Bool) → report_of (cond done (Ok n) (Err (Refused n))) room ≡ reportOf done n
 counted n room true = refl
 counted n room false = refl
 
-told_whole : (n room : ℕ) (done : Bool) → n < room → report_of (told_by n room done) room ≡ record { size = n; done = done }
+told_whole : (n room : ℕ) (done : Bool) → n < room → report_of (told_by n room done) room ≡ reportOf done n
 unfolding told_by
 told_whole n room done h = rw (lt-ltb n room h) (counted n room done)
 
-told_long : (n room : ℕ) (done : Bool) → room ≤ n → report_of (told_by n room done) room ≡ record { size = room; done = false }
+told_long : (n room : ℕ) (done : Bool) → room ≤ n → report_of (told_by n room done) room ≡ Err room
 unfolding told_by
 told_long n room done h = rw (le-ltb n room h) refl
 
@@ -66,11 +65,11 @@ told_in slice name text done =
     (λ (h : length slice ≤ length text).
     let full : min (length text) (length slice) ≡ length slice = min-eq_right h in
     ap (λ (r : Report). in_room name (record { text = sets slice 0 text; report = r })) (told_long (length text) (length slice) done h)
-    ∙ filled name (sets slice 0 text) (record { size = length slice; done = false }) (record { size = min (length text) (length slice); done = done }) (omega arith) (omega arith))
+    ∙ filled name (sets slice 0 text) (Err (length slice)) (reportOf done (min (length text) (length slice))) (omega arith) (rw (size_told done (min (length text) (length slice))) (omega arith)))
     (λ (h : length text < length slice).
     let free : min (length text) (length slice) ≡ length text = min-eq_left (omega arith) in
     ap (λ (r : Report). in_room name (record { text = sets slice 0 text; report = r })) (told_whole (length text) (length slice) done h)
-    ∙ ap (λ (k : ℕ). in_room name (record { text = sets slice 0 text; report = record { size = k; done = done } })) (sym free))
+    ∙ ap (λ (k : ℕ). in_room name (record { text = sets slice 0 text; report = reportOf done k })) (sym free))
     (le_or_lt (length slice) (length text))
 
 pub imported_in : (table list lines edges : List ℕ) (t : Table) (cells : List ℕ) {o o' : Output} {slice after : List ℕ} {told : Told} {room : ℕ} {r : Report} {p : Page}
@@ -80,7 +79,7 @@ imported_in table list lines edges t cells {o' = o'} {slice} {after} {told} {roo
     let told-zone = (subst (λ (x : Output). Imported table list (length cells) lines edges (drawing t no_mode cells x) o' slice after told) e I).tells in
     let zone = drawing t no_mode cells new_output in
     let text = zone_text table list (length cells) lines edges zone.answer zone.out in
-    let done = is_accepted (verdict_of zone.answer) in
+    let done = is_ok zone.answer in
     q
     ∙ ap (λ (x : List ℕ). in_room list (record { text = x; report = r })) told-zone.bytes
     ∙ ap (λ (x : Report). in_room list (record { text = sets slice 0 text; report = x }))

@@ -5,12 +5,13 @@
 
 mod zone;
 
-use arguments::{Begun, argument, argument_count, begin};
+use arguments::{argument, argument_count, begin};
 use command_line::tools::Tool;
-use desk::arrays::{place_lines, place_words, row_floats, row_numbers, row_words, text_bytes};
+use desk::arrays::{PLACES, ROWS, TEXT, zeros};
+use desk::load_cells;
 use desk::tables::load_sound_table;
 use desk::words::say_report;
-use desk::{Loaded, load_cells};
+use lent::Table;
 use std::rt::{Env, Files};
 use zone::import_list;
 
@@ -18,25 +19,21 @@ use zone::import_list;
 fn import_file<R: Files>(
     rt: &R,
     text: &mut [u8],
-    table: &[u8],
-    list: &[u8],
-    edges: &[u64],
-    reverse: &[u32],
-    area: &[f64],
+    table_name: &[u8],
+    list_name: &[u8],
+    table: &Table<'_>,
 ) {
-    let mut cells = place_words();
-    let mut lines = place_lines();
-    let Loaded::Count(count) = load_cells(rt, list, text, &mut cells, &mut lines) else {
+    let mut cells = zeros::<u64, PLACES>();
+    let mut lines = zeros::<usize, PLACES>();
+    let Some(count) = load_cells(rt, list_name, text, &mut cells, &mut lines) else {
         return;
     };
     let report = import_list(
         text,
-        table,
-        list,
+        table_name,
+        list_name,
         &lines[..count],
-        edges,
-        reverse,
-        area,
+        table,
         &cells[..count],
     );
     say_report(text, report);
@@ -46,44 +43,37 @@ fn import_file<R: Files>(
 fn import_word<R: Files + Env>(
     rt: &R,
     text: &mut [u8],
-    table: &[u8],
-    edges: &[u64],
-    reverse: &[u32],
-    area: &[f64],
+    table_name: &[u8],
+    table: &Table<'_>,
     k: usize,
 ) {
     let mut name = io::buffer();
     let size = argument(rt, k, &mut name);
-    import_file(rt, text, table, &name[..size], edges, reverse, area);
+    import_file(rt, text, table_name, &name[..size], table);
 }
 
 // Imports the lists, which are all words from the first of them on.
 fn import_words<R: Files + Env>(
     rt: &R,
     text: &mut [u8],
-    table: &[u8],
-    edges: &[u64],
-    reverse: &[u32],
-    area: &[f64],
+    table_name: &[u8],
+    table: &Table<'_>,
     first: usize,
 ) {
-    let count = argument_count(rt);
-    let mut k = first;
-    while k < count {
-        import_word(rt, text, table, edges, reverse, area, k);
-        k += 1;
+    for k in first..argument_count(rt) {
+        import_word(rt, text, table_name, table, k);
     }
 }
 
 // Loads the table and goes on where it keeps the rules: one that does not is told once, and not for each zone.
-fn import_all<R: Files + Env>(rt: &R, table: &[u8], first: usize) {
-    let mut text = text_bytes();
-    let mut edges = row_words();
-    let mut reverse = row_numbers();
-    let mut area = row_floats();
-    let Loaded::Count(rows) = load_sound_table(
+fn import_all<R: Files + Env>(rt: &R, table_name: &[u8], first: usize) {
+    let mut text = zeros::<u8, TEXT>();
+    let mut edges = zeros::<u64, ROWS>();
+    let mut reverse = zeros::<u32, ROWS>();
+    let mut area = zeros::<f64, ROWS>();
+    let Some(rows) = load_sound_table(
         rt,
-        table,
+        table_name,
         &mut text,
         &mut edges,
         &mut reverse,
@@ -91,22 +81,19 @@ fn import_all<R: Files + Env>(rt: &R, table: &[u8], first: usize) {
     ) else {
         return;
     };
-    import_words(
-        rt,
-        &mut text,
-        table,
-        &edges[..rows],
-        &reverse[..rows],
-        &area[..rows],
-        first,
-    );
+    let table = Table {
+        edges: &edges[..rows],
+        reverse: &reverse[..rows],
+        area: &area[..rows],
+    };
+    import_words(rt, &mut text, table_name, &table, first);
 }
 
 fn main(rt: HostRuntime) {
-    let Begun::Ready(line) = begin(&rt, Tool::TillImport) else {
+    let Some(command) = begin(&rt, Tool::TillImport) else {
         return;
     };
     let mut table = io::buffer();
-    let size = argument(&rt, line.table, &mut table);
-    import_all(&rt, &table[..size], line.list);
+    let size = argument(&rt, command.table, &mut table);
+    import_all(&rt, &table[..size], command.list);
 }

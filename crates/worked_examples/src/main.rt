@@ -8,10 +8,12 @@ ghost use Rattle.std.specs.Prelude.{◌≡◌};
 ghost use Rattle.desk.specs.Loads.{count_of};
 ghost use Rattle.worked_examples.specs.BaseCells.{all_of_base};
 
-use desk::arrays::{edge_numbers, row_floats, row_numbers, row_words, text_bytes};
-use desk::{Loaded, load_table};
+use desk::arrays::{EDGES, ROWS, TEXT, zeros};
+use desk::load_table;
 use full_size::dissolve_list;
-use show::{show_answer, show_title};
+use lent::Table;
+use lent::arrays::OutputArrays;
+use show::Shown;
 use std::rt::Files;
 
 // Six hexagons of resolution 9, around the one in their middle.
@@ -34,55 +36,47 @@ fn base_cells() -> [u64; 122]
     ensures { result ≡ all_of_base }
 {
     let mut cells = [0u64; 122];
-    let mut b: usize = 0;
-    while b < 122 {
+    for b in 0..122 {
         cells[b] = 0x0800_1fff_ffff_ffff + b as u64 * 0x2000_0000_0000;
-        b += 1;
     }
     cells
 }
 
-fn show_dissolved(edges: &[u64], reverse: &[u32], area: &[f64], list: &[u64], mode: usize) {
-    let mut start = [0u32; 2];
-    let mut size = [0u32; 2];
-    let mut group = [0u32; 2];
-    let mut ring_area = [0.0f64; 2];
-    let mut ring_edges = edge_numbers();
-    let answer = dissolve_list(
-        edges,
-        reverse,
-        area,
-        list,
-        &mut start,
-        &mut size,
-        &mut group,
-        &mut ring_area,
-        &mut ring_edges,
-        mode,
-    );
-    show_answer(answer, &size);
+// Two rings and as many edges as a table can draw.
+fn show_dissolved<R: Print>(rt: &R, table: &Table<'_>, list: &[u64], mode: usize) {
+    let mut arrays = OutputArrays::<2, EDGES>::new();
+    let mut output = arrays.lend(2, EDGES);
+    let answer = dissolve_list(table, list, &mut output, mode);
+    let shown = Shown {
+        answer,
+        lengths: output.size,
+    };
+    let _ = println!(rt; "; {shown}");
 }
 
 // A table that cannot be taken has no rows, and every call refuses it by 1.
-fn rows_of(table: Loaded) -> usize
-    ensures { result ≡ count_of table }
+fn rows_of(loaded: Option<usize>) -> usize
+    ensures { result ≡ count_of loaded }
 {
-    match table {
-        Loaded::Count(rows) => rows,
-        Loaded::Nothing => 0,
-    }
+    loaded.unwrap_or(0)
 }
 
 // Dissolves a list of cells over the table of a file, and shows what comes of it.
-fn show_zone<R: Files>(rt: &R, title: &[u8], file: &[u8], list: &[u64], mode: usize) {
-    let mut edges = row_words();
-    let mut reverse = row_numbers();
-    let mut area = row_floats();
-    let mut text = text_bytes();
-    let table = load_table(rt, file, &mut text, &mut edges, &mut reverse, &mut area);
-    let rows = rows_of(table);
-    show_title(title, rows, list.len());
-    show_dissolved(&edges[..rows], &reverse[..rows], &area[..rows], list, mode);
+fn show_zone<R: Files + Print>(rt: &R, title: &str, file: &[u8], list: &[u64], mode: usize) {
+    let mut edges = zeros::<u64, ROWS>();
+    let mut reverse = zeros::<u32, ROWS>();
+    let mut area = zeros::<f64, ROWS>();
+    let mut text = zeros::<u8, TEXT>();
+    let loaded = load_table(rt, file, &mut text, &mut edges, &mut reverse, &mut area);
+    let rows = rows_of(loaded);
+    let cells = list.len();
+    let _ = print!(rt; "{title}: rows {rows}, cells {cells}");
+    let table = Table {
+        edges: &edges[..rows],
+        reverse: &reverse[..rows],
+        area: &area[..rows],
+    };
+    show_dissolved(rt, &table, list, mode);
 }
 
 fn main(rt: HostRuntime) {
@@ -93,17 +87,17 @@ fn main(rt: HostRuntime) {
     let again = [CENTRE, around[0], CENTRE];
     let world = base_cells();
     let coarse = [COARSE];
-    show_zone(&rt, b"the empty list", b"seven_r9.table", &around[..0], 0);
-    show_zone(&rt, b"T7, two hexagons", b"seven_r9.table", &around[..2], 0);
+    show_zone(&rt, "the empty list", b"seven_r9.table", &around[..0], 0);
+    show_zone(&rt, "T7, two hexagons", b"seven_r9.table", &around[..2], 0);
     show_zone(
         &rt,
-        b"T8, six around an absent one",
+        "T8, six around an absent one",
         b"seven_r9.table",
         &around,
         0,
     );
-    show_zone(&rt, b"T9, then the centre", b"seven_r9.table", &seven, 0);
-    show_zone(&rt, b"a cell named again", b"seven_r9.table", &again, 0);
-    show_zone(&rt, b"all of resolution 0", b"world_r0.table", &world, 0);
-    show_zone(&rt, b"delta 7", b"gosper_d7_r9.table", &coarse, 1);
+    show_zone(&rt, "T9, then the centre", b"seven_r9.table", &seven, 0);
+    show_zone(&rt, "a cell named again", b"seven_r9.table", &again, 0);
+    show_zone(&rt, "all of resolution 0", b"world_r0.table", &world, 0);
+    show_zone(&rt, "delta 7", b"gosper_d7_r9.table", &coarse, 1);
 }

@@ -1,4 +1,3 @@
 -- Laws that the proofs of this crate cite.
-pub mod Loading
 pub mod Points
 pub mod Reporting

@@ -6,9 +6,8 @@ use mathlib.Core.Path.{◌≡◌, refl, sym, subst}
 use mathlib.Core.List.{List, [], ◌∷◌}
 use native.Mathlib.Omega.{arith}
 use lib.ListN.{length}
-use Rattle.scope.specs.declared.Verdict.{Verdict}
-use Rattle.scope.specs.declared.Verdict.TheVariants.{Accepted, Refused}
-use Rattle.scope.specs.Answers.{if_accepted}
+use Rattle.std.specs.Prelude.{Err, Ok}
+use Rattle.scope.specs.Answers.{if_accepted, Verdict}
 use Rattle.scope.specs.Table.{Table}
 use Rattle.scope.specs.Memory.{Memory, Output}
 use Rattle.scope.specs.Calls.{offering, opening}
@@ -23,8 +22,8 @@ verdicts_many t m [] = refl
 verdicts_many t m (x ∷ xs) = let e = verdicts_many t (offering t m x).left xs in omega arith
 
 offered_few : (v : Verdict) (xs : List ℕ) → length (if_accepted v xs []) ≤ length xs
-offered_few Accepted xs = omega arith
-offered_few (Refused number index) xs = omega arith
+offered_few (Ok done) xs = omega arith
+offered_few (Err why) xs = omega arith
 
 feed_few : (t : Table) (m : Memory) (xs : List ℕ) → points_unchecked (tally (verdicts t m xs)) ≤ length xs
 feed_few t m xs =

@@ -1,25 +1,27 @@
--- `till_import::import_all` meets its contract. What is lent of the table is what was loaded.
+-- `till_import::import_all` meets its contract. What is lent to `import_words` are the rows that were loaded.
 -- Assumes nothing.
+use Prim.Native.Nat.{◌≤◌}
+use native.Mathlib.Omega.{arith}
 use mathlib.Core.Path.{sym}
+use lib.ListN.{length}
 use lib.Seq.{length-take-le}
-use Rattle.desk.proofs.Sound.{sound_few}
-use Rattle.desk.proofs.Within.{loaded_in}
+use Rattle.desk.proofs.Pages.{in_slice, within}
 use Rattle.till_import.proofs.import_all.Goals as goal
 
 pub slice_bounds-edges-end : goal.slice_bounds-edges-end
-slice_bounds-edges-end g c = loaded_in c.in-Count.is (sound_few c.load_sound_table.ensures).0 c.load_sound_table.auto.edges
+slice_bounds-edges-end g c = let h : c.in-Some.rows ≤ length c.zeros-edges.result = c.in-Some.ensures.fits.0 in omega (arith, h, c.load_sound_table.auto.edges)
 
-pub slice_bounds-import_words-end-2 : goal.slice_bounds-import_words-end-2
-slice_bounds-import_words-end-2 g c = sym (length-take-le _ _ (loaded_in c.in-Count.is (sound_few c.load_sound_table.ensures).0 c.load_sound_table.auto.edges))
+pub slice_bounds-table-end : goal.slice_bounds-table-end
+slice_bounds-table-end g c = sym (length-take-le _ _ (let h : c.in-Some.rows ≤ length c.zeros-edges.result = c.in-Some.ensures.fits.0 in omega (arith, h, c.load_sound_table.auto.edges)))
 
 pub slice_bounds-reverse-end : goal.slice_bounds-reverse-end
-slice_bounds-reverse-end g c = loaded_in c.in-Count.is (sound_few c.load_sound_table.ensures).1 c.load_sound_table.auto.reverse
+slice_bounds-reverse-end g c = let h : c.in-Some.rows ≤ length c.zeros-reverse.result = c.in-Some.ensures.fits.1 in omega (arith, h, c.load_sound_table.auto.reverse)
 
-pub slice_bounds-import_words-end-3 : goal.slice_bounds-import_words-end-3
-slice_bounds-import_words-end-3 g c = sym (length-take-le _ _ (loaded_in c.in-Count.is (sound_few c.load_sound_table.ensures).1 c.load_sound_table.auto.reverse))
+pub slice_bounds-table-end-2 : goal.slice_bounds-table-end-2
+slice_bounds-table-end-2 g c = sym (length-take-le _ _ (let h : c.in-Some.rows ≤ length c.zeros-reverse.result = c.in-Some.ensures.fits.1 in omega (arith, h, c.load_sound_table.auto.reverse)))
 
 pub slice_bounds-area-end : goal.slice_bounds-area-end
-slice_bounds-area-end g c = loaded_in c.in-Count.is (sound_few c.load_sound_table.ensures).2 c.load_sound_table.auto.area
+slice_bounds-area-end g c = let h : c.in-Some.rows ≤ length c.zeros-area.result = c.in-Some.ensures.fits.2 in omega (arith, h, c.load_sound_table.auto.area)
 
-pub slice_bounds-import_words-end-4 : goal.slice_bounds-import_words-end-4
-slice_bounds-import_words-end-4 g c = sym (length-take-le _ _ (loaded_in c.in-Count.is (sound_few c.load_sound_table.ensures).2 c.load_sound_table.auto.area))
+pub slice_bounds-table-end-3 : goal.slice_bounds-table-end-3
+slice_bounds-table-end-3 g c = sym (length-take-le _ _ (let h : c.in-Some.rows ≤ length c.zeros-area.result = c.in-Some.ensures.fits.2 in omega (arith, h, c.load_sound_table.auto.area)))

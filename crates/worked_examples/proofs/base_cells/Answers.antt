@@ -3,7 +3,8 @@
 use native.Mathlib.Omega.{arith}
 use mathlib.Core.Path.{◌∙◌, ap}
 use Rattle.scope.specs.Lists.{tabulate}
-use Rattle.codec.proofs.Columns.{tabulated, filled_none, filled_next, filled_all}
+use Rattle.codec.specs.Columns.{tabulated}
+use Rattle.codec.proofs.Columns.{filled_none, filled_next, filled_all}
 use Rattle.worked_examples.specs.BaseCells.{of_base, all_of_base}
 use Rattle.worked_examples.proofs.base_cells.Goals as goal
 

@@ -1,5 +1,4 @@
 -- The loop of `worked_examples::base_cells`.
-use Prim.Native.Nat.{◌-◌}
 use mathlib.Core.Path.{◌≡◌}
 use lib.ListN.{length}
 use Rattle.scope.specs.Lists.{tabulate}
@@ -9,6 +8,3 @@ use Rattle.worked_examples.proofs.base_cells.Given as goal
 
 abbrev pub invariant-loop-b : goal.invariant-loop-b
 invariant-loop-b l = Filled (tabulate of_base) l.initial.cells l.cells l.b × (length l.initial.cells ≡ 122)
-
-abbrev pub decreases-loop-b : goal.decreases-loop-b
-decreases-loop-b l = 122 - l.b

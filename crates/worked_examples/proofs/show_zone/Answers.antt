@@ -3,23 +3,22 @@
 use native.Mathlib.Omega.{arith}
 use mathlib.Core.Path.{sym}
 use lib.Seq.{length-take-le}
-use Rattle.desk.proofs.Fits.{rows_few}
 use Rattle.worked_examples.proofs.show_zone.Goals as goal
 
 pub slice_bounds-edges-end : goal.slice_bounds-edges-end
-slice_bounds-edges-end g c = let load = c.load_table-table in omega (arith, c.rows_of-rows.ensures, (rows_few load.ensures).0, load.auto.edges)
+slice_bounds-edges-end g c = let load = c.load_table-loaded in omega (arith, c.rows_of-rows.ensures, load.ensures.fits.0, load.auto.edges)
 
-pub slice_bounds-show_dissolved-end : goal.slice_bounds-show_dissolved-end
-slice_bounds-show_dissolved-end g c = sym (length-take-le _ _ (let load = c.load_table-table in omega (arith, c.rows_of-rows.ensures, (rows_few load.ensures).0, load.auto.edges)))
+pub slice_bounds-table-end : goal.slice_bounds-table-end
+slice_bounds-table-end g c = sym (length-take-le _ _ (let load = c.load_table-loaded in omega (arith, c.rows_of-rows.ensures, load.ensures.fits.0, load.auto.edges)))
 
 pub slice_bounds-reverse-end : goal.slice_bounds-reverse-end
-slice_bounds-reverse-end g c = let load = c.load_table-table in omega (arith, c.rows_of-rows.ensures, (rows_few load.ensures).1, load.auto.reverse)
+slice_bounds-reverse-end g c = let load = c.load_table-loaded in omega (arith, c.rows_of-rows.ensures, load.ensures.fits.1, load.auto.reverse)
 
-pub slice_bounds-show_dissolved-end-2 : goal.slice_bounds-show_dissolved-end-2
-slice_bounds-show_dissolved-end-2 g c = sym (length-take-le _ _ (let load = c.load_table-table in omega (arith, c.rows_of-rows.ensures, (rows_few load.ensures).1, load.auto.reverse)))
+pub slice_bounds-table-end-2 : goal.slice_bounds-table-end-2
+slice_bounds-table-end-2 g c = sym (length-take-le _ _ (let load = c.load_table-loaded in omega (arith, c.rows_of-rows.ensures, load.ensures.fits.1, load.auto.reverse)))
 
 pub slice_bounds-area-end : goal.slice_bounds-area-end
-slice_bounds-area-end g c = let load = c.load_table-table in omega (arith, c.rows_of-rows.ensures, (rows_few load.ensures).2, load.auto.area)
+slice_bounds-area-end g c = let load = c.load_table-loaded in omega (arith, c.rows_of-rows.ensures, load.ensures.fits.2, load.auto.area)
 
-pub slice_bounds-show_dissolved-end-3 : goal.slice_bounds-show_dissolved-end-3
-slice_bounds-show_dissolved-end-3 g c = sym (length-take-le _ _ (let load = c.load_table-table in omega (arith, c.rows_of-rows.ensures, (rows_few load.ensures).2, load.auto.area)))
+pub slice_bounds-table-end-3 : goal.slice_bounds-table-end-3
+slice_bounds-table-end-3 g c = sym (length-take-le _ _ (let load = c.load_table-loaded in omega (arith, c.rows_of-rows.ensures, load.ensures.fits.2, load.auto.area)))

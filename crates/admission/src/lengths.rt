@@ -1,27 +1,27 @@
 // Refusal 10, from lengths alone: the slices disagree, or a capacity is outside its range.
 ghost use Rattle.std.specs.Prelude.{◌≡◌};
 ghost use Rattle.scope.specs.Memory.{lengths_fit, outputs_agree};
-ghost use Rattle.lent.specs.Lent.{table_of, state_of, output_of};
+ghost use Rattle.lent.specs.Lent.{table_of, read_of, drawn_of};
 ghost use Rattle.admission.specs.Lengths.{both_agree, three_agree, capacities_in};
 
 use arcs::Pool;
-use lent::{Marks, Output, State, Table};
+use lent::{Drawn, Marked, State, Table};
 
 // Both other slices are as long as the first.
-fn both_agree(n: usize, a: usize, b: usize) -> bool
+pub fn both_agree(n: usize, a: usize, b: usize) -> bool
     ensures { result ≡ both_agree n a b }
 {
     (a == n) & (b == n)
 }
 
 // All three other slices are as long as the first.
-fn three_agree(n: usize, a: usize, b: usize, c: usize) -> bool
+pub fn three_agree(n: usize, a: usize, b: usize, c: usize) -> bool
     ensures { result ≡ three_agree n a b c }
 {
     (a == n) & (b == n) & (c == n)
 }
 
-fn capacities_fit(slots: usize, places: usize) -> bool
+pub fn capacities_fit(slots: usize, places: usize) -> bool
     ensures { result ≡ capacities_in slots places }
 {
     let pool = Pool { slots, places };
@@ -30,8 +30,8 @@ fn capacities_fit(slots: usize, places: usize) -> bool
 
 // The slices of a table and of a state agree in length, and its capacities are in their ranges.
 #[tactic(auto, unfolding(scope::specs::Memory::lengths_fit))]
-pub fn lengths_fit(table: &Table<'_>, state: &State<'_>, marks: &Marks<'_>) -> bool
-    ensures { result ≡ lengths_fit (table_of table.now) (state_of state.now marks.now) }
+pub fn lengths_fit(table: &Table<'_>, state: &State<'_>, marks: &Marked<'_>) -> bool
+    ensures { result ≡ lengths_fit (table_of table.now) (read_of state.now marks.now) }
 {
     let rows = table.edges.len();
     let places = state.cells.len();
@@ -55,8 +55,8 @@ pub fn lengths_fit(table: &Table<'_>, state: &State<'_>, marks: &Marks<'_>) -> b
 }
 
 // The slices of a ring list agree in length.
-pub fn outputs_agree(output: &Output<'_>) -> bool
-    ensures { result ≡ outputs_agree (output_of output.now) }
+pub fn outputs_agree(output: &Drawn<'_>) -> bool
+    ensures { result ≡ outputs_agree (drawn_of output.now) }
 {
     three_agree(
         output.start.len(),

@@ -9,14 +9,14 @@ ghost use Rattle.scope.specs.Lists.{at};
 ghost use Rattle.scope.specs.Table.{target_of};
 ghost use Rattle.scope.specs.CellLists.{cell_verdict};
 ghost use Rattle.scope.specs.Memory.{kept_mode, held_cells, places};
-ghost use Rattle.lent.specs.Lent.{table_of, state_of};
+ghost use Rattle.lent.specs.Lent.{table_of, read_of};
 ghost use Rattle.admission.specs.Admits.{table_after, open_after, list_after, state_after, admits, CellAsks};
 
 use arcs::kept_mode;
 use edge_table::check_table;
 use index::resolution;
 use lengths::lengths_fit;
-use lent::{Marks, State, Table};
+use lent::{Marked, State, Table};
 use rules::rules_kept;
 use scope::Refusal;
 use validate::{validate, validate_cell};
@@ -59,10 +59,10 @@ pub fn list_verdict(
 pub fn state_verdict(
     table: &Table<'_>,
     state: &State<'_>,
-    marks: &Marks<'_>,
+    marks: &Marked<'_>,
     agree: bool,
 ) -> Result<(), Refusal>
-    ensures { result ≡ state_after agree (table_of table.now) (state_of state.now marks.now) }
+    ensures { result ≡ state_after agree (table_of table.now) (read_of state.now marks.now) }
 {
     let fits = lengths_fit(table, state, marks);
     table_verdict(table, agree & fits)?;
@@ -91,10 +91,10 @@ fn cell_verdict(table: &Table<'_>, state: &State<'_>, cell: u64) -> Result<(), R
 pub fn admit_verdict(
     table: &Table<'_>,
     state: &State<'_>,
-    marks: &Marks<'_>,
+    marks: &Marked<'_>,
     cell: u64,
 ) -> Result<(), Refusal>
-    ensures { result ≡ admits (table_of table.now) (state_of state.now marks.now) cell }
+    ensures { result ≡ admits (table_of table.now) (read_of state.now marks.now) cell }
 {
     state_verdict(table, state, marks, true)?;
     cell_verdict(table, state, cell)

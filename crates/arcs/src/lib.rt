@@ -5,11 +5,11 @@ mod cancel;
 
 ghost use Rattle.std.specs.Prelude.{◌≡◌, ◌&&◌, [], ◌∷◌, ◌<◌, leb, length};
 ghost use Rattle.scope.specs.Memory.{kept, opened};
-ghost use Rattle.lent.specs.Lent.{table_of, memory_of, SameMemory, SameMarks};
+ghost use Rattle.lent.specs.Lent.{table_of, memory_of, marked_of, SameMemory, SameMarks};
 ghost use Rattle.arcs.specs.Taking.{AddAsks, Added};
 
 use cancel::cancel_rows;
-use lent::{Marks, Memory, Table};
+use lent::{Marked, Marks, Memory, Table};
 use placing::{hold_cell, place_outline};
 use slices::{clear, put32};
 
@@ -43,14 +43,14 @@ fn open_head(head: &mut [u32], mode: usize)
 pub fn add_edges(
     table: &Table<'_>,
     memory: &mut Memory<'_>,
-    marks: &Marks<'_>,
+    marks: &Marked<'_>,
     vacant: &mut [u64],
     rows: &[u32],
     cell: u64,
 ) -> usize
-    requires { AddAsks (table_of table.now) (memory_of memory.old marks.now) vacant.old cell rows.now }
+    requires { AddAsks (table_of table.now) (marked_of memory.old marks.now) vacant.old cell rows.now }
     ensures same_memory { SameMemory memory.old memory.new }
-    ensures added { Added (table_of table.now) (memory_of memory.old marks.now) cell result (memory_of memory.new marks.now) vacant.new }
+    ensures added { Added (table_of table.now) (marked_of memory.old marks.now) cell result (marked_of memory.new marks.now) vacant.new }
 {
     let place = hold_cell(memory.head, memory.cells, memory.parent, memory.rank, cell);
     place_outline(

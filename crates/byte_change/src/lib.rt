@@ -5,7 +5,7 @@
 ghost use Rattle.std.specs.Prelude.{◌≡◌, []};
 ghost use Rattle.scope.specs.Answers.{if_accepted};
 ghost use Rattle.scope.specs.Bytes.{rows_in, table_in, state_in, state_bytes, result_of, storing};
-ghost use Rattle.lent.specs.Lent.{table_of, memory_of, state_of, SameMemory, SameMarks};
+ghost use Rattle.lent.specs.Lent.{table_of, memory_of, read_of, SameMemory, SameMarks};
 ghost use Rattle.wire.specs.Sizes.{StateRoom};
 ghost use Rattle.byte_limits.specs.Within.{StandingWithin};
 ghost use Rattle.byte_change.specs.Changing.{changing};
@@ -13,7 +13,7 @@ ghost use Rattle.byte_change.specs.Changing.{changing};
 use answer_numbers::result;
 use byte_limits::arrays::{TableArrays, decode_in};
 use lent::arrays::{Sizes, StateArrays};
-use lent::{Marks, Memory, State, Table};
+use lent::{Marked, Marks, Memory, State, Table};
 use scope::Refusal;
 use standing::{offer, open};
 use wire::columns::encode_state;
@@ -47,12 +47,12 @@ fn make(
 fn store(
     bytes: &mut [u8],
     state: &State<'_>,
-    marks: &Marks<'_>,
+    marks: &Marked<'_>,
     verdict: Result<(), Refusal>,
 ) -> u64
-    requires { StateRoom bytes.old (state_of state.now marks.now) }
+    requires { StateRoom bytes.old (read_of state.now marks.now) }
     ensures result { result ≡ result_of verdict }
-    ensures stored { bytes.new ≡ if_accepted verdict (state_bytes (state_of state.now marks.now)) bytes.old }
+    ensures stored { bytes.new ≡ if_accepted verdict (state_bytes (read_of state.now marks.now)) bytes.old }
 {
     if verdict.is_ok() {
         encode_state(bytes, state, marks);
@@ -60,7 +60,8 @@ fn store(
     result(verdict)
 }
 
-// Opens or offers within the limits.
+// Opens or offers within the limits. Never inlined: in its caller's frame its arrays would lie beside those of a read out.
+#[inline(never)]
 pub fn change_within(
     table: &[u8],
     state: &mut [u8],
@@ -82,5 +83,5 @@ pub fn change_within(
     };
     let (mut memory, mut marks) = decode_in(&mut state_arrays, state, sizes);
     let verdict = make(&table, &mut memory, &mut marks, change);
-    store(state, &memory.as_state(), &marks, verdict)
+    store(state, &memory.as_state(), &marks.as_marked(), verdict)
 }

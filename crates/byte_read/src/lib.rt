@@ -13,7 +13,8 @@ use lent::arrays::{OutputArrays, Sizes, StateArrays};
 use standing::read_out;
 use wire::output::show;
 
-// Reads out within the limits.
+// Reads out within the limits. Never inlined: in its caller's frame its arrays would lie beside those of a change.
+#[inline(never)]
 pub fn read_within(table: &[u8], state: &[u8], out: &mut [u8], slots: usize, places: usize) -> u64
     requires { StandingWithin table.now state.now slots places }
     ensures { record { result = result; state = []; out = out.new } ≡ showing (reading_out (table_in table.now) (state_in (rows_in table.now) slots places state.now) (cleared_output (row_count (table_in table.now)))) [] out.old }

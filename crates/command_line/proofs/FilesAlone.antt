@@ -77,14 +77,14 @@ unfolding line_from
 faults_keep t k o [] h = h
 faults_keep t k o (w ∷ ws) h = faults_keep t (suc k) (taken t o k w) ws (fault_keeps t o k (word_of t w) h)
 
-over : (o : Line) (k : ℕ) → Faulty (with_fault o k)
-over o k = record { word = k; faulty = refl }
+over : (o : Line) (k : ℕ) → Faulty (with_fault o (suc k))
+over o k = record { word = suc k; faulty = refl }
 
-bad_by : (o : Line) (k : ℕ) (fault : Option ℕ) → o.fault ≡ fault → Faulty (unless_faulty fault o (cond o.mode_wanted (with_fault o k) (with_fault o k)))
-bad_by o k None e = either o.mode_wanted {x = with_fault o k} {y = with_fault o k} (over o k) (over o k)
+bad_by : (o : Line) (k : ℕ) (fault : Option ℕ) → o.fault ≡ fault → Faulty (unless_faulty fault o (cond o.mode_wanted (with_fault o (suc k)) (with_fault o (suc k))))
+bad_by o k None e = either o.mode_wanted {x = with_fault o (suc k)} {y = with_fault o (suc k)} (over o k) (over o k)
 bad_by o k (Some j) e = record { word = j; faulty = e }
 
-bad_faults : (t : Tool) (o : Line) (k : ℕ) → Faulty (known_taken t o k None)
+bad_faults : (t : Tool) (o : Line) (k : ℕ) → Faulty (known_taken t o (suc k) None)
 unfolding known_taken mode_taken word_taken
 bad_faults t o k = bad_by o k o.fault refl
 
@@ -110,26 +110,26 @@ asked_unready o c h q = asked_by o.help _ c h.asked q
 -- ---- so every word is a file
 
 names : (o : Line) (k : ℕ) (v : Option Word) (ws : List (List ℕ)) (c : Command) → is_option v ≡ false
-    → status_of (line_from TillImport (suc k) (known_taken TillImport o k v) ws) ≡ Ok c → is_file v ≡ true
+    → status_of (line_from TillImport (suc (suc k)) (known_taken TillImport o (suc k) v) ws) ≡ Ok c → is_file v ≡ true
 unfolding known_taken
-names o k (Some Help) ws c h q = asked_unready _ c (all_keep TillImport (suc k) (with_help o) ws (record { asked = refl })) q
+names o k (Some Help) ws c h q = asked_unready _ c (all_keep TillImport (suc (suc k)) (with_help o) ws (record { asked = refl })) q
 names o k (Some Rows) ws c h q = cc
 names o k (Some Mode) ws c h q = cc
 names o k (Some Even) ws c h q = refl
 names o k (Some Mixed) ws c h q = refl
 names o k (Some File) ws c h q = refl
-names o k None ws c h q = fault_unready _ c (faults_keep TillImport (suc k) _ ws (bad_faults TillImport o k)) q
+names o k None ws c h q = fault_unready _ c (faults_keep TillImport (suc (suc k)) _ ws (bad_faults TillImport o k)) q
 
 unfoldable pub all_files : List (List ℕ) → Bool
 all_files [] = true
 all_files (w ∷ ws) = is_file (word_of TillImport w) && all_files ws
 
-files_from : (k : ℕ) (o : Line) (ws : List (List ℕ)) (c : Command) → status_of (line_from TillImport k o ws) ≡ Ok c → all_files ws ≡ true
+files_from : (k : ℕ) (o : Line) (ws : List (List ℕ)) (c : Command) → status_of (line_from TillImport (suc k) o ws) ≡ Ok c → all_files ws ≡ true
 unfolding line_from all_files
 files_from k o [] c q = refl
 files_from k o (w ∷ ws) c q =
     and_both (is_file (word_of TillImport w)) (all_files ws) (names o k (word_of TillImport w) ws c (no_option w) q)
-    (files_from (suc k) (taken TillImport o k w) ws c q)
+    (files_from (suc k) (taken TillImport o (suc k) w) ws c q)
 
 pub files_alone : (ws : List (List ℕ)) (c : Command) → status_of (line_of TillImport ws) ≡ Ok c → all_files ws ≡ true
-files_alone ws c q = files_from 1 no_words ws c q
+files_alone ws c q = files_from 0 no_words ws c q

@@ -3,7 +3,7 @@
 --     line_of      what the words of a command line come to
 --     status_of    all that is needed; or help, or what is wrong
 -- Assumes nothing.
-use Rattle.std.specs.Prelude.{ℕ, suc, Bool, true, false, cond, List, [], ◌∷◌, Option, Some, None, Result, Ok, Err}
+use Rattle.std.specs.Prelude.{ℕ, zero, suc, Bool, true, false, cond, List, [], ◌∷◌, Option, Some, None, Result, Ok, Err}
 use Rattle.command_line.specs.declared.tools.Tool.{Tool}
 use Rattle.command_line.specs.declared.words.Word.{Word}
 use Rattle.command_line.specs.declared.words.Word.TheVariants as word
@@ -39,14 +39,19 @@ with_mode_wanted o = record { help = o.help; rows = o.rows; mode = o.mode; mode_
 abbrev pub with_mode : Line → Mode → Line
 with_mode o m = record { help = o.help; rows = o.rows; mode = m; mode_wanted = false; table = o.table; list = o.list; fault = o.fault }
 
+-- the number of a word, which is none where it is 0
+abbrev pub numbered : ℕ → Option ℕ
+numbered zero = None
+numbered (suc k) = Some (suc k)
+
 abbrev pub with_table : Line → ℕ → Line
-with_table o k = record { help = o.help; rows = o.rows; mode = o.mode; mode_wanted = o.mode_wanted; table = Some k; list = o.list; fault = o.fault }
+with_table o k = record { help = o.help; rows = o.rows; mode = o.mode; mode_wanted = o.mode_wanted; table = numbered k; list = o.list; fault = o.fault }
 
 abbrev pub with_list : Line → ℕ → Line
-with_list o k = record { help = o.help; rows = o.rows; mode = o.mode; mode_wanted = o.mode_wanted; table = o.table; list = Some k; fault = o.fault }
+with_list o k = record { help = o.help; rows = o.rows; mode = o.mode; mode_wanted = o.mode_wanted; table = o.table; list = numbered k; fault = o.fault }
 
 abbrev pub with_fault : Line → ℕ → Line
-with_fault o k = record { help = o.help; rows = o.rows; mode = o.mode; mode_wanted = o.mode_wanted; table = o.table; list = o.list; fault = Some k }
+with_fault o k = record { help = o.help; rows = o.rows; mode = o.mode; mode_wanted = o.mode_wanted; table = o.table; list = o.list; fault = numbered k }
 
 -- ---- word k
 
@@ -115,11 +120,15 @@ line_from t k o (w ∷ ws) = line_from t (suc k) (taken t o k w) ws
 abbrev pub line_of : Tool → List (List ℕ) → Line
 line_of t ws = line_from t 1 no_words ws
 
--- Two files are wanted, of which the list is the second.
-abbrev pub with_files : Line → Option ℕ → Option ℕ → Result Command Stop
-with_files o (Some table) (Some list) = Ok (record { rows = o.rows; mode = o.mode; table = table; list = list })
-with_files o (Some table) None = Err stop.FilesWanted
-with_files o None list = Err stop.FilesWanted
+-- 0 where there is none
+abbrev pub number_of : Option ℕ → ℕ
+number_of None = 0
+number_of (Some k) = k
+
+-- Two files are wanted, of which the list is the second: it is asked for alone.
+abbrev pub with_files : Line → Option ℕ → Result Command Stop
+with_files o None = Err stop.FilesWanted
+with_files o (Some list) = Ok (record { rows = o.rows; mode = o.mode; table = number_of o.table; list = list })
 
 abbrev pub unless_fault : Option ℕ → Result Command Stop → Result Command Stop
 unless_fault None r = r
@@ -128,4 +137,4 @@ unless_fault (Some k) r = Err (stop.Fault k)
 unfoldable pub status_of : Line → Result Command Stop
 status_of o =
     cond o.help (Err stop.Help)
-    (unless_fault o.fault (cond o.mode_wanted (Err stop.ModeWanted) (with_files o o.table o.list)))
+    (unless_fault o.fault (cond o.mode_wanted (Err stop.ModeWanted) (with_files o o.list)))

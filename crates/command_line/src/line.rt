@@ -1,6 +1,6 @@
 // A command line, taken word by word: options, and files, the table first.
 ghost use Rattle.std.specs.Prelude.{◌≡◌};
-ghost use Rattle.command_line.specs.Lines.{mode_number, no_words, with_help, with_rows, with_mode, with_mode_wanted, with_fault, file_taken, mode_taken, word_taken, known_taken, taken, status_of};
+ghost use Rattle.command_line.specs.Lines.{mode_number, no_words, with_help, with_rows, with_mode, with_mode_wanted, numbered, with_fault, file_taken, mode_taken, word_taken, known_taken, taken, status_of};
 
 use crate::tools::Tool;
 use crate::words::{Word, word_of};
@@ -26,8 +26,8 @@ impl Mode {
     }
 }
 
-// What the words so far come to. `table`, `list` (the first, where a tool takes several) and `fault` are numbers of words; a mode is
-// wanted where the next word is to be one.
+// What the words so far come to. `table`, `list` (the first, where a tool takes several) and `fault` are numbers of words, counted from 1;
+// a mode is wanted where the next word is to be one.
 #[derive(Clone, Copy, Debug, PartialEq, Eq)]
 pub struct Line {
     pub help: bool,
@@ -39,7 +39,7 @@ pub struct Line {
     pub fault: Option<usize>,
 }
 
-// All that a tool needs; the files are numbers of words.
+// All that a tool needs; the files are numbers of words, the table 0 where a line has a list alone.
 #[derive(Clone, Copy, Debug, PartialEq, Eq)]
 pub struct Command {
     pub rows: bool,
@@ -55,6 +55,13 @@ pub enum Stop {
     Fault(usize),
     ModeWanted,
     FilesWanted,
+}
+
+// The number of a word, which is none where it is 0.
+fn numbered(k: usize) -> Option<usize>
+    ensures { result ≡ numbered k }
+{
+    if k == 0 { None } else { Some(k) }
 }
 
 impl Line {
@@ -76,7 +83,7 @@ impl Line {
     fn refuse(mut self, k: usize) -> Self
         ensures { result ≡ with_fault self k }
     {
-        self.fault = Some(k);
+        self.fault = numbered(k);
         self
     }
 
@@ -114,11 +121,11 @@ impl Line {
         ensures { result ≡ file_taken tool self k }
     {
         if self.table.is_none() {
-            self.table = Some(k);
+            self.table = numbered(k);
             return self;
         }
         if self.list.is_none() {
-            self.list = Some(k);
+            self.list = numbered(k);
             return self;
         }
         if tool.takes_many() {
@@ -188,13 +195,13 @@ impl Line {
         if self.mode_wanted {
             return Err(Stop::ModeWanted);
         }
-        let (Some(table), Some(list)) = (self.table, self.list) else {
+        let Some(list) = self.list else {
             return Err(Stop::FilesWanted);
         };
         Ok(Command {
             rows: self.rows,
             mode: self.mode,
-            table,
+            table: self.table.unwrap_or(0),
             list,
         })
     }

@@ -25,7 +25,7 @@ use Rattle.report.specs.Faults.{file_error_text, table_fault_text, list_fault_te
 use Rattle.files.specs.declared.FileError.{FileError}
 use Rattle.files.specs.Files.{count_of as bytesRead}
 use Rattle.desk.specs.Loads.{whole, InFront, table_loaded, LoadsTable, read_into, list_loaded, LoadsCells}
-use Rattle.desk.specs.Taking.{Taken, came_of, fault_of_rows, table_complaint, TakesRows, TakesTable, fault_of_cells, list_complaint, TakesList, TakesCells}
+use Rattle.desk.specs.Taking.{Taken, came_of, table_complaint, TakesRows, TakesTable, list_complaint, TakesList, TakesCells}
 
 came_in_front : (file : Result ℕ FileError) (text : List ℕ) → bytesRead file ≤ length text → InFront (came_of file text) text
 came_in_front (Ok n) text h = ap (λ (k : ℕ). take k text) (sym (length-take-le n text h))
@@ -41,17 +41,18 @@ module _ (b path : List ℕ) (t : Table) {file : Result ℕ TableFault} {t' : Ta
       ∙ ap (λ (x : Table). record { answer = result_ok (file_of (room_of t) b); left = x }) R.left
 
   pub rows_taken : (line : List ℕ) {n : ℕ} → file ≡ Ok n → TakesRows b path t line line (Ok n) t'
+  unfolding table_fault_text
   rows_taken line e = record {
     loads = ap (λ (x : Result ℕ TableFault). record { answer = result_ok x; left = t' }) (sym e) ∙ table_read;
-    says = subst (λ (x : Result ℕ TableFault). Wrote line 0 line 0 (fault_of_rows path (length t.edges) x)) (sym e ∙ R.answer) (wrote_none line 0 (omega arith));
+    says = subst (λ (x : Result ℕ TableFault). Wrote line 0 line 0 (table_fault_text path (length t.edges) x)) (sym e ∙ R.answer) (wrote_none line 0 (omega arith));
   }
 
   pub rows_faulty : {line line' : List ℕ} {fault : TableFault} {size room : ℕ} → file ≡ Err fault → room ≡ length t.edges
-      → Wrote line 0 line' size (table_fault_text path room fault) → TakesRows b path t line line' (Err size) t'
+      → Wrote line 0 line' size (table_fault_text path room (Err fault)) → TakesRows b path t line line' (Err size) t'
   rows_faulty {line} {line'} {fault} {size} e l W = record {
     loads = ap (λ (x : Result ℕ TableFault). record { answer = result_ok x; left = t' }) (sym e) ∙ table_read;
-    says = subst (λ (x : Result ℕ TableFault). Wrote line 0 line' size (fault_of_rows path (length t.edges) x)) (sym e ∙ R.answer)
-        (subst (λ (k : ℕ). Wrote line 0 line' size (table_fault_text path k fault)) l W);
+    says = subst (λ (x : Result ℕ TableFault). Wrote line 0 line' size (table_fault_text path (length t.edges) x)) (sym e ∙ R.answer)
+        (subst (λ (k : ℕ). Wrote line 0 line' size (table_fault_text path k (Err fault))) l W);
   }
 
 module _ {file : Result ℕ FileError} {text path : List ℕ} {t : Table} {line line' : List ℕ} where
@@ -90,17 +91,18 @@ module _ (b path cells numbers : List ℕ) {answer : Result ℕ Stopped} {cells'
   end_is = ap end_of S.answer_is ∙ ended (cells_of (min (length cells) (length numbers)) b).end (length (cells_of (min (length cells) (length numbers)) b).cells)
 
   pub cells_taken : (line : List ℕ) {n : ℕ} → answer ≡ Ok n → TakesList b path cells numbers line line (Ok n) cells' numbers'
+  unfolding list_fault_text
   cells_taken line e = record {
     loads = ap (λ (x : Result ℕ Stopped). record { answer = result_ok x; cells = cells'; lines = numbers' }) (sym e) ∙ list_read;
-    says = subst (λ (x : Option ListFault). Wrote line 0 line 0 (fault_of_cells path (length cells) x)) (ap end_of (sym e) ∙ end_is) (wrote_none line 0 (omega arith));
+    says = subst (λ (x : Option ListFault). Wrote line 0 line 0 (list_fault_text path (length cells) x)) (ap end_of (sym e) ∙ end_is) (wrote_none line 0 (omega arith));
   }
 
   pub cells_faulty : {line line' : List ℕ} {stopped : Stopped} {size room : ℕ} → answer ≡ Err stopped → room ≡ length cells
-      → Wrote line 0 line' size (list_fault_text path room stopped.fault) → TakesList b path cells numbers line line' (Err size) cells' numbers'
+      → Wrote line 0 line' size (list_fault_text path room (Some stopped.fault)) → TakesList b path cells numbers line line' (Err size) cells' numbers'
   cells_faulty {line} {line'} {stopped} {size} e l W = record {
     loads = ap (λ (x : Result ℕ Stopped). record { answer = result_ok x; cells = cells'; lines = numbers' }) (sym e) ∙ list_read;
-    says = subst (λ (x : Option ListFault). Wrote line 0 line' size (fault_of_cells path (length cells) x)) (ap end_of (sym e) ∙ end_is)
-        (subst (λ (k : ℕ). Wrote line 0 line' size (list_fault_text path k stopped.fault)) l W);
+    says = subst (λ (x : Option ListFault). Wrote line 0 line' size (list_fault_text path (length cells) x)) (ap end_of (sym e) ∙ end_is)
+        (subst (λ (k : ℕ). Wrote line 0 line' size (list_fault_text path k (Some stopped.fault))) l W);
   }
 
 module _ {file : Result ℕ FileError} {text path cells numbers line line' : List ℕ} where

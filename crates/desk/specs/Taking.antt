@@ -1,6 +1,6 @@
 -- What is taken of a file that was read, and the one line that is said where nothing is.
 -- Assumes nothing.
-use Rattle.std.specs.Prelude.{ℕ, min, ◌≡◌, List, length, take, [], Option, Some, None, Result, Ok, Err}
+use Rattle.std.specs.Prelude.{ℕ, min, ◌≡◌, List, length, take, Result, Ok, Err}
 use Rattle.std.specs.Result.{result_ok}
 use Rattle.scope.specs.Table.{Table}
 use Rattle.text.specs.Text.{Wrote}
@@ -8,8 +8,6 @@ use Rattle.cell_text.specs.Lines.{cells_of}
 use Rattle.table_bytes.specs.Files.{file_of, room_of}
 use Rattle.report.specs.Faults.{file_error_text, table_fault_text, list_fault_text}
 use Rattle.files.specs.declared.FileError.{FileError}
-use Rattle.table_bytes.specs.declared.TableFault.{TableFault}
-use Rattle.cell_text.specs.declared.ListFault.{ListFault}
 use Rattle.desk.specs.Loads.{Came, whole, none, table_loaded, list_loaded}
 
 -- the bytes at the front of the buffer that the file was read into
@@ -27,13 +25,9 @@ complaint_of (Err size) = size
 
 -- ---- a table
 
-abbrev pub fault_of_rows : List ℕ → ℕ → Result ℕ TableFault → List ℕ
-fault_of_rows path room (Ok rows) = []
-fault_of_rows path room (Err fault) = table_fault_text path room fault
-
 -- what is wrong with its bytes, of the file at this path; nothing where nothing is
 abbrev pub rows_complaint : List ℕ → List ℕ → Table → List ℕ
-rows_complaint bytes path t = fault_of_rows path (length t.edges) (file_of (room_of t) bytes)
+rows_complaint bytes path t = table_fault_text path (length t.edges) (file_of (room_of t) bytes)
 
 unfoldable pub table_complaint : Result ℕ FileError → List ℕ → List ℕ → Table → List ℕ
 table_complaint (Ok n) text path t = rows_complaint (take n text) path t
@@ -51,12 +45,8 @@ pub record TakesTable (read : Result ℕ FileError) (text path : List ℕ) (t : 
 
 -- ---- a list
 
-abbrev pub fault_of_cells : List ℕ → ℕ → Option ListFault → List ℕ
-fault_of_cells path room None = []
-fault_of_cells path room (Some fault) = list_fault_text path room fault
-
 abbrev pub cells_complaint : List ℕ → List ℕ → List ℕ → List ℕ → List ℕ
-cells_complaint bytes path cells lines = fault_of_cells path (length cells) (cells_of (min (length cells) (length lines)) bytes).end
+cells_complaint bytes path cells lines = list_fault_text path (length cells) (cells_of (min (length cells) (length lines)) bytes).end
 
 unfoldable pub list_complaint : Result ℕ FileError → List ℕ → List ℕ → List ℕ → List ℕ → List ℕ
 list_complaint (Ok n) text path cells lines = cells_complaint (take n text) path cells lines

@@ -70,3 +70,31 @@ pub fn zeros<T: Number, const N: usize>() -> [T; N]
 {
     [T::ZERO; N]
 }
+
+// For a column of a table.
+pub fn row_zeros<T: Number>() -> [T; ROWS]
+    ensures { result ≡ replicate 65536 T.ZERO }
+{
+    zeros()
+}
+
+// For the cells of a list, or their lines.
+pub fn place_zeros<T: Number>() -> [T; PLACES]
+    ensures { result ≡ replicate 16384 T.ZERO }
+{
+    zeros()
+}
+
+// For the cells of a feed, or their lines.
+pub fn offer_zeros<T: Number>() -> [T; OFFERS]
+    ensures { result ≡ replicate 65536 T.ZERO }
+{
+    zeros()
+}
+
+// For the bytes of a file, or of a report.
+pub fn text_zeros() -> [u8; TEXT]
+    ensures { result ≡ replicate 1441792 0 }
+{
+    zeros()
+}

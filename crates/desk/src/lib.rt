@@ -37,7 +37,7 @@ fn take_rows(
 {
     match read_table(bytes, edges, reverse, area) {
         Ok(rows) => Ok(rows),
-        Err(fault) => Err(put_table_fault(line, 0, path, edges.len(), fault)),
+        Err(fault) => Err(put_table_fault(line, 0, path, edges.len(), Err(fault))),
     }
 }
 
@@ -102,7 +102,7 @@ fn take_list(
 {
     match read_cells(bytes, cells, lines) {
         Ok(count) => Ok(count),
-        Err(stopped) => Err(put_list_fault(line, 0, path, cells.len(), stopped.fault)),
+        Err(stopped) => Err(put_list_fault(line, 0, path, cells.len(), Some(stopped.fault))),
     }
 }
 

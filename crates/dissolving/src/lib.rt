@@ -13,7 +13,7 @@ use arcs::Pool;
 use lent::{Marks, Memory, Output, Table};
 use reading::read_if;
 use scope::{ReadOut, Refusal};
-use taking::take_all;
+use taking::take_with_marks;
 
 // Open, and offers in list order, up to the first that is refused.
 fn fill(
@@ -29,7 +29,7 @@ fn fill(
     ensures takes_all { TakesAll (table_of table.now) (opened mode (memory_of memory.old marks.old)) list.now result (memory_of memory.new marks.new) }
 {
     Pool::open(memory, marks, mode);
-    take_all(table, memory, marks, list)
+    take_with_marks(table, memory, marks, list)
 }
 
 // Reads out where the verdict accepts; a refusal opens the state anew.

@@ -4,11 +4,12 @@
 --     compared_is     dissolved afresh, and compared
 --     audit_is        the whole
 -- Assumes nothing.
-use Prim.Native.Nat.{ℕ}
-use mathlib.Core.Path.{◌≡◌, ◌∙◌, ap, ap₂}
+use Prim.Native.Nat.{ℕ, ◌≤◌}
+use mathlib.Core.Path.{◌≡◌, sym, ◌∙◌, ap, ap₂}
 use mathlib.Core.Bool.{Bool, ◌&&◌}
 use mathlib.Core.List.{List, []}
 use lib.ListN.{length, take}
+use lib.Seq.{paste, length-take-le}
 use Rattle.scope.specs.Lists.{at}
 use Rattle.scope.specs.Answers.{if_accepted, Answer, Verdict}
 use Rattle.scope.specs.Table.{Table}
@@ -45,11 +46,12 @@ module _ (t : Table) (xs : List ℕ) (o : Output) where
   abbrev stand_by : FedRead → List ℕ → Standing
   stand_by r cs = record { opened = r.opened; counts = r.counts; cells = cs; answer = r.answer; out = r.out }
 
-  pub stand_is : {m : Memory} {r : FedRead} {cs : List ℕ} (list : List ℕ) → m ≡ full_memory t → r ≡ reading_fed t m xs o → 16384 ≡ length list → length r.left.cells ≡ 16384
-      → cs ≡ take (length list) (take (at r.left.head 1) r.left.cells) → stand_by r cs ≡ standing t xs o
+  pub stand_is : {m : Memory} {r : FedRead} (list : List ℕ) {n : ℕ} {list' : List ℕ} → m ≡ full_memory t → r ≡ reading_fed t m xs o
+      → 16384 ≡ length list → length r.left.cells ≡ 16384
+      → n ≡ length (take (length list) (take (at r.left.head 1) r.left.cells)) → list' ≡ paste list 0 r.left.cells n → stand_by r (take n list') ≡ standing t xs o
   unfolding standing
-  stand_is {r = r} list f e a b c =
-      ap (stand_by r) (c ∙ held_copied (at r.left.head 1) r.left.cells list a b) ∙ ap (λ (k : FedRead). stood k) e
+  stand_is {r = r} list f e a b c d =
+      ap (stand_by r) (held_copied (at r.left.head 1) r.left.cells list a b c d) ∙ ap (λ (k : FedRead). stood k) e
       ∙ ap (λ (k : Memory). stood (reading_fed t k xs o)) f
 
 -- ---- dissolved afresh
@@ -83,7 +85,10 @@ module _ (t : Table) (xs : List ℕ) (o p : Output) where
   abbrev after_standing : Standing → Audit
   after_standing s = audit_by s (length s.cells) (comparing t s.cells s.answer s.out p)
 
-  pub audit_is : {s : Standing} {compared : Compared} → s ≡ standing t xs o → compared ≡ comparing t s.cells s.answer s.out p
-      → audit_by s (length s.cells) compared ≡ auditing t xs o p
+  -- the cells are the first n of a list
+  pub audit_is : {s : Standing} {n : ℕ} {compared : Compared} (list : List ℕ) → s ≡ standing t xs o → s.cells ≡ take n list → n ≤ length list
+      → compared ≡ comparing t s.cells s.answer s.out p → audit_by s n compared ≡ auditing t xs o p
   unfolding auditing
-  audit_is {s} e c = ap (audit_by s (length s.cells)) c ∙ ap after_standing e
+  audit_is {s} {n} {compared} list e f h c =
+      ap (λ (k : ℕ). audit_by s k compared) (sym (length-take-le n list h) ∙ ap length (sym f))
+      ∙ ap (audit_by s (length s.cells)) c ∙ ap after_standing e

@@ -1,6 +1,6 @@
 // A feed offered to a state of full size that is opened for it: the offers by verdict, what stands then, and the held cells. The state is gone
 // when it returns.
-ghost use Rattle.std.specs.Prelude.{◌≡◌, ◌<◌, length, take, replicate, []};
+ghost use Rattle.std.specs.Prelude.{◌≡◌, ◌≤◌, length, take, replicate, []};
 ghost use Rattle.std.proofs.Math.Seq.{paste};
 ghost use Rattle.scope.specs.Lists.{at};
 ghost use Rattle.scope.specs.Answers.{if_accepted};
@@ -13,6 +13,7 @@ use full_size::{PLACES, ROWS, SLOTS, sizes_for};
 use lent::arrays::StateArrays;
 use lent::{Marks, Memory, Output, Table};
 use scope::{ReadOut, Refusal};
+use slices::at32;
 use solvent::{open, read_out};
 
 // The mode that names none.
@@ -26,11 +27,11 @@ pub struct Answers {
     pub standing: Result<ReadOut, Refusal>,
 }
 
-// The same, and the held cells.
+// The same, and how many cells are held.
 #[derive(Clone, Copy)]
-pub struct Stood<'a> {
+pub struct Stood {
     pub answers: Answers,
-    pub cells: &'a [u64],
+    pub held: usize,
 }
 
 // The cells that are offered: none where the opening was refused.
@@ -64,33 +65,29 @@ fn read_fed(
     }
 }
 
-// Copies the held cells, as many as there is room for.
-fn copy_held<'a>(memory: &Memory<'_>, list: &'a mut [u64]) -> &'a [u64]
-    requires { 1 < length memory.now.head.now }
-    ensures { result.now ≡ take (length list.old) (take (at memory.now.head.now 1) memory.now.cells.now) }
+// Copies the held cells, as many as there is room for, and says how many.
+fn copy_held(memory: &Memory<'_>, list: &mut [u64]) -> usize
+    ensures counts { result ≡ length (take (length list.old) (take (at memory.now.head.now 1) memory.now.cells.now)) }
+    ensures copies { list.new ≡ paste list.old 0 memory.now.cells.now result }
+    ensures within { result ≤ length list.new }
 {
-    let count = memory.held().min(memory.cells.len()).min(list.len());
+    let held = at32(memory.head, 1).min(memory.cells.len());
+    let count = list.len().min(held);
     list[..count].copy_from_slice(&memory.cells[..count]);
-    &list[..count]
+    count
 }
 
 // All of it in a state of its own. The list has a place for each cell that the state can hold.
-pub fn stand<'a>(
-    table: &Table<'_>,
-    feed: &[u64],
-    list: &'a mut [u64],
-    output: &mut Output<'_>,
-) -> Stood<'a>
+pub fn stand(table: &Table<'_>, feed: &[u64], list: &mut [u64], output: &mut Output<'_>) -> Stood
     requires { 16384 ≡ length list.old }
+    ensures within { result.held ≤ length list.new }
     ensures same_output { SameOutput output.old output.new }
-    ensures stands { record { opened = result.answers.opened; counts = result.answers.counts; cells = result.cells.now; answer = result.answers.standing; out = output_of output.new }
+    ensures stands { record { opened = result.answers.opened; counts = result.answers.counts; cells = take result.held list.new; answer = result.answers.standing; out = output_of output.new }
         ≡ standing (table_of table.now) feed.now (output_of output.old) }
 {
     let mut arrays = StateArrays::<ROWS, SLOTS, PLACES>::new();
     let (mut memory, mut marks) = arrays.lend(sizes_for(table));
     let answers = read_fed(table, &mut memory, &mut marks, feed, output);
-    Stood {
-        answers,
-        cells: copy_held(&memory, list),
-    }
+    let held = copy_held(&memory, list);
+    Stood { answers, held }
 }

@@ -55,14 +55,14 @@ pub fn audit(
     let answers = stood.answers;
     let same = same_anew(
         table,
-        stood.cells,
+        &list[..stood.held],
         answers.standing,
         &output.as_drawn(),
         anew,
     );
     Audited {
         answers,
-        visits: stood.cells.len(),
+        visits: stood.held,
         same,
     }
 }

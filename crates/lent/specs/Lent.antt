@@ -1,12 +1,13 @@
 -- What lent values hold, as `scope` has it; and that a call hands back the very slices that it was lent, each as long as before.
 -- Assumes nothing.
-use Rattle.std.specs.Prelude.{◌≡◌, length}
+use Rattle.std.specs.Prelude.{◌≡◌, List, ℕ, length}
 use Rattle.scope.specs.Table.{Table as ScopeTable, table}
 use Rattle.scope.specs.Memory.{Memory as ScopeMemory, Output as ScopeOutput, memory, output}
 use Rattle.lent.specs.declared.Table.{Table}
 use Rattle.lent.specs.declared.Memory.{Memory}
 use Rattle.lent.specs.declared.State.{State}
 use Rattle.lent.specs.declared.Marks.{Marks}
+use Rattle.lent.specs.declared.Marked.{Marked}
 use Rattle.lent.specs.declared.Output.{Output}
 use Rattle.lent.specs.declared.Drawn.{Drawn}
 
@@ -19,6 +20,18 @@ memory_of m k = memory m.head.now m.cells.now m.parent.now m.rank.now k.cell_mar
 abbrev pub state_of : State → Marks → ScopeMemory
 state_of s k = memory s.head.now s.cells.now s.parent.now s.rank.now k.cell_mark.now s.slot_row.now s.slot_cell.now s.prev.now s.next.now s.row_slot.now k.row_mark.now
 
+-- the memory with these marks of its places and of the table's rows, where they are lent apart
+abbrev pub memory_with : Memory → List ℕ → List ℕ → ScopeMemory
+memory_with m cell_mark row_mark = memory m.head.now m.cells.now m.parent.now m.rank.now cell_mark m.slot_row.now m.slot_cell.now m.prev.now m.next.now m.row_slot.now row_mark
+
+-- the memory, where its marks are only read
+abbrev pub marked_of : Memory → Marked → ScopeMemory
+marked_of m k = memory_with m k.cell_mark.now k.row_mark.now
+
+-- the state, where its marks are only read
+abbrev pub read_of : State → Marked → ScopeMemory
+read_of s k = memory s.head.now s.cells.now s.parent.now s.rank.now k.cell_mark.now s.slot_row.now s.slot_cell.now s.prev.now s.next.now s.row_slot.now k.row_mark.now
+
 -- what a state holds is what the memory holds
 pub record IsRead (m : Memory) (s : State) : Type 0 where
   pub head : s.head.now ≡ m.head.now
@@ -30,6 +43,11 @@ pub record IsRead (m : Memory) (s : State) : Type 0 where
   pub prev : s.prev.now ≡ m.prev.now
   pub next : s.next.now ≡ m.next.now
   pub row_slot : s.row_slot.now ≡ m.row_slot.now
+
+-- marks to be read are the marks
+pub record IsMarked (k : Marks) (l : Marked) : Type 0 where
+  pub cell_mark : l.cell_mark.now ≡ k.cell_mark.now
+  pub row_mark : l.row_mark.now ≡ k.row_mark.now
 
 abbrev pub output_of : Output → ScopeOutput
 output_of o = output o.start.now o.size.now o.group.now o.area.now o.edges.now

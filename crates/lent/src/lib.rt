@@ -3,7 +3,7 @@
 
 ghost use Rattle.std.specs.Prelude.{◌≡◌, ◌<◌, ◌^◌, length};
 ghost use Rattle.scope.specs.Lists.{at};
-ghost use Rattle.lent.specs.Lent.{IsRead, IsDrawn};
+ghost use Rattle.lent.specs.Lent.{IsRead, IsMarked, IsDrawn};
 
 pub mod arrays;
 
@@ -111,6 +111,25 @@ impl State<'_> {
 pub struct Marks<'a> {
     pub cell_mark: &'a mut [u32],
     pub row_mark: &'a mut [u32],
+}
+
+impl Marks<'_> {
+    // The same, to be read.
+    pub fn as_marked(&self) -> Marked<'_>
+        ensures { IsMarked self.now result }
+    {
+        Marked {
+            cell_mark: self.cell_mark,
+            row_mark: self.row_mark,
+        }
+    }
+}
+
+// The marks for those that only read them: its slices may be lent to others too.
+#[derive(Clone, Copy)]
+pub struct Marked<'a> {
+    pub cell_mark: &'a [u32],
+    pub row_mark: &'a [u32],
 }
 
 // The ring list as a slice for each field of its records, and the edge list.

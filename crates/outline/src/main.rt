@@ -8,7 +8,7 @@ mod zone;
 use arguments::{argument, begin};
 use command_line::line::Command;
 use command_line::tools::Tool;
-use desk::arrays::{PLACES, ROWS, TEXT, zeros};
+use desk::arrays::{place_zeros, row_zeros, text_zeros};
 use desk::load_cells;
 use desk::tables::load_sound_table;
 use desk::words::say_report;
@@ -16,14 +16,16 @@ use lent::Table;
 use std::rt::{Env, Files};
 use zone::draw_zone;
 
-// Loads the two files and, where both can be taken, prints the outline of the cells over the table.
+// Loads the two files and, where both can be taken, prints the outline of the cells over the table. A call of its own, so that help and
+// complaints take no stack for its arrays.
+#[inline(never)]
 fn outline<R: Files>(rt: &R, table_name: &[u8], list_name: &[u8], mode: usize, by_row: bool) {
-    let mut text = zeros::<u8, TEXT>();
-    let mut edges = zeros::<u64, ROWS>();
-    let mut reverse = zeros::<u32, ROWS>();
-    let mut area = zeros::<f64, ROWS>();
-    let mut cells = zeros::<u64, PLACES>();
-    let mut lines = zeros::<usize, PLACES>();
+    let mut text = text_zeros();
+    let mut edges = row_zeros::<u64>();
+    let mut reverse = row_zeros::<u32>();
+    let mut area = row_zeros::<f64>();
+    let mut cells = place_zeros::<u64>();
+    let mut lines = place_zeros::<usize>();
     let Some(rows) = load_sound_table(
         rt,
         table_name,

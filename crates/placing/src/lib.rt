@@ -100,9 +100,9 @@ pub fn hold_cell(
     place
 }
 
-// How many slots are free.
+// How many slots are free. A sum with no branch, so that several are counted at a time.
 pub fn count_free(slot_row: &[u32]) -> usize
     ensures { result ≡ length (free_in slot_row.now) }
 {
-    slot_row.iter().filter(|row| **row == 0).count()
+    slot_row.iter().map(|row| usize::from(*row == 0)).sum()
 }

@@ -48,14 +48,14 @@ fn row_words(row: usize) -> &'static [u8]
     b"this row (the first is row 0, each has 20 bytes) is no valid edge, is out of order, is not named back by its reverse row, or has no finite area term"
 }
 
-// The words of a refusal.
-#[tactic(auto, unfolding(scope::specs::Answers::refusal_number, scope::specs::Answers::refusal_index))]
-fn reason_of(refusal: Refusal) -> &'static [u8]
-    ensures { result.now ≡ reason_words (refusal_number refusal) (refusal_index refusal) }
+// The words of a refusal by its number and index.
+#[tactic(auto, using(std::proofs::lemmas::Bool::Decides::nat_tests))]
+fn reason_of(number: usize, index: usize) -> &'static [u8]
+    ensures { result.now ≡ reason_words number index }
 {
-    match refusal {
-        Refusal::BadTable(row) => row_words(row),
-        _ => words_of(refusal.number()),
+    match number {
+        1 => row_words(index),
+        _ => words_of(number),
     }
 }
 
@@ -69,32 +69,47 @@ fn put_spot(out: &mut [u8], at: usize, file: &[u8], word: &[u8], n: usize) -> us
 }
 
 // The file that a refusal points at, if any, and the row or the line in it; `line` is the line of the cell.
-#[tactic(auto, unfolding(crate::specs::Refusals::refusal_place, scope::specs::Answers::refusal_number, scope::specs::Answers::refusal_index))]
+#[tactic(auto, using(std::proofs::lemmas::Bool::Decides::nat_tests), unfolding(crate::specs::Refusals::refusal_place))]
 fn put_place(
     out: &mut [u8],
     at: usize,
     table: &[u8],
     list: &[u8],
-    refusal: Refusal,
+    number: usize,
+    index: usize,
     line: usize,
 ) -> usize
     requires { at ≤ length out.old }
-    ensures { Wrote out.old at out.new result (refusal_place table.now list.now (refusal_number refusal) (refusal_index refusal) line) }
+    ensures { Wrote out.old at out.new result (refusal_place table.now list.now number index line) }
 {
-    match refusal {
-        Refusal::BadTable(row) => put_spot(out, at, table, b" row ", row),
-        Refusal::InvalidCell(_)
-        | Refusal::DuplicateInput(_)
-        | Refusal::UnsupportedResolution(_)
-        | Refusal::EdgeNotInTable(_)
-        | Refusal::EdgeTwice(_)
-        | Refusal::PoolFull(_) => put_spot(out, at, list, b" line ", line),
-        Refusal::TooManyCells => {
+    match number {
+        1 => put_spot(out, at, table, b" row ", index),
+        2..=7 => put_spot(out, at, list, b" line ", line),
+        8 => {
             let named = put_shown(out, at, list);
             put_bytes(out, named, b": ")
         }
-        Refusal::BrokenState | Refusal::BadLengths => at,
+        _ => at,
     }
+}
+
+// A refusal of this number and index, whether there is such a one or not: where, its number, and in words.
+pub fn put_numbered(
+    out: &mut [u8],
+    at: usize,
+    table: &[u8],
+    list: &[u8],
+    number: usize,
+    index: usize,
+    line: usize,
+) -> usize
+    requires { at ≤ length out.old }
+    ensures { Wrote out.old at out.new result (refusal_text table.now list.now number index line) }
+{
+    let placed = put_place(out, at, table, list, number, index, line);
+    let numbered = put_noted(out, placed, b"refused ", number, b", ");
+    let worded = put_bytes(out, numbered, reason_of(number, index));
+    put_bytes(out, worded, b"\n")
 }
 
 // A refusal: where, its number, and in words.
@@ -109,8 +124,13 @@ pub fn put_refusal(
     requires { at ≤ length out.old }
     ensures { Wrote out.old at out.new result (refusal_text table.now list.now (refusal_number refusal) (refusal_index refusal) line) }
 {
-    let placed = put_place(out, at, table, list, refusal, line);
-    let numbered = put_noted(out, placed, b"refused ", refusal.number(), b", ");
-    let worded = put_bytes(out, numbered, reason_of(refusal));
-    put_bytes(out, worded, b"\n")
+    put_numbered(
+        out,
+        at,
+        table,
+        list,
+        refusal.number(),
+        refusal.index(),
+        line,
+    )
 }

@@ -4,6 +4,7 @@ use Prim.Native.Nat.{ℕ}
 use mathlib.Core.Path.{◌≡◌, refl}
 use mathlib.Core.Bool.{true}
 use mathlib.Core.List.{List, ◌++◌}
+use Rattle.std.specs.Prelude.{Some, Err}
 use Rattle.text.specs.Text.{ascii, shown, unbroken, one_line}
 use Rattle.text.proofs.Lines.{name_unbroken, number_unbroken, line_behind, name_line, number_line}
 use Rattle.files.specs.declared.Reason.{Reason}
@@ -41,18 +42,18 @@ module _ (name : List ℕ) where
     unfolding one_line
     too_long_line = name_line name _ (number_line room _ refl)
 
-    pub cut_off_line : (place : ℕ) → one_line (table_fault_text name room (table.CutOff place)) ≡ true
+    pub cut_off_line : (place : ℕ) → one_line (table_fault_text name room (Err (table.CutOff place))) ≡ true
     unfolding table_fault_text one_line
     cut_off_line place = name_line name _ (number_line place _ refl)
 
-    pub rows_line : (place : ℕ) → one_line (table_fault_text name room (table.TooMany place)) ≡ true
+    pub rows_line : (place : ℕ) → one_line (table_fault_text name room (Err (table.TooMany place))) ≡ true
     unfolding table_fault_text unbroken one_line
     rows_line place = line_behind (shown name ++ noted (ascii " byte ") place (ascii "")) _ (name_unbroken name _ (number_unbroken place _ refl)) (number_line room _ refl)
 
-    pub fault_line : (line : ℕ) (what : Wrong) → one_line (list_fault_text name room (list.Wrong line what)) ≡ true
+    pub fault_line : (line : ℕ) (what : Wrong) → one_line (list_fault_text name room (Some (list.Wrong line what))) ≡ true
     unfolding list_fault_text
     fault_line line what = line_behind (shown name ++ noted (ascii " line ") line (ascii "")) (wrong_text what) (lined_unbroken line) (wrong_line what)
 
-    pub cells_line : (line : ℕ) → one_line (list_fault_text name room (list.TooMany line)) ≡ true
+    pub cells_line : (line : ℕ) → one_line (list_fault_text name room (Some (list.TooMany line))) ≡ true
     unfolding list_fault_text one_line
     cells_line line = line_behind (shown name ++ noted (ascii " line ") line (ascii "")) _ (lined_unbroken line) (number_line room _ refl)

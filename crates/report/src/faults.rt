@@ -56,19 +56,20 @@ pub fn put_file_error(
     }
 }
 
-// What is wrong with a table file.
+// What is wrong with a table file, where something is.
 pub fn put_table_fault(
     out: &mut [u8],
     at: usize,
     name: &[u8],
     room: usize,
-    fault: TableFault,
+    file: Result<usize, TableFault>,
 ) -> usize
     requires { at ≤ length out.old }
-    ensures { Wrote out.old at out.new result (table_fault_text name.now room fault) }
+    ensures { Wrote out.old at out.new result (table_fault_text name.now room file) }
 {
-    match fault {
-        TableFault::CutOff(place) => {
+    match file {
+        Ok(_) => at,
+        Err(TableFault::CutOff(place)) => {
             let named = put_shown(out, at, name);
             put_noted(
                 out,
@@ -78,7 +79,7 @@ pub fn put_table_fault(
                 b": this row is cut off, a row has 20 bytes\n",
             )
         }
-        TableFault::TooMany(place) => {
+        Err(TableFault::TooMany(place)) => {
             let named = put_shown(out, at, name);
             let placed = put_noted(out, named, b" byte ", place, b"");
             put_noted(
@@ -116,24 +117,25 @@ fn put_wrong(out: &mut [u8], at: usize, wrong: Wrong) -> usize
     }
 }
 
-// What is wrong with a cell list.
+// What is wrong with a cell list, where something is.
 pub fn put_list_fault(
     out: &mut [u8],
     at: usize,
     name: &[u8],
     room: usize,
-    fault: ListFault,
+    end: Option<ListFault>,
 ) -> usize
     requires { at ≤ length out.old }
-    ensures { Wrote out.old at out.new result (list_fault_text name.now room fault) }
+    ensures { Wrote out.old at out.new result (list_fault_text name.now room end) }
 {
-    match fault {
-        ListFault::Wrong(line, wrong) => {
+    match end {
+        None => at,
+        Some(ListFault::Wrong(line, wrong)) => {
             let named = put_shown(out, at, name);
             let lined = put_noted(out, named, b" line ", line, b"");
             put_wrong(out, lined, wrong)
         }
-        ListFault::TooMany(line) => {
+        Some(ListFault::TooMany(line)) => {
             let named = put_shown(out, at, name);
             let lined = put_noted(out, named, b" line ", line, b"");
             put_noted(out, lined, b": there are more than ", room, b" cells\n")

@@ -2,6 +2,8 @@
 pub mod Fills
 pub mod Parts
 pub mod Sorts
+pub mod Merging
+pub mod Halves
 pub mod Numbers
 pub mod Sorting
 pub mod Determined

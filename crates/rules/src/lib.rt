@@ -7,11 +7,11 @@ ghost use Rattle.scope.specs.Lists.{passes};
 ghost use Rattle.scope.specs.Answers.{is_accepted};
 ghost use Rattle.scope.specs.CellLists.{list_verdict};
 ghost use Rattle.scope.specs.Rules.{cleared_at, is_root, parent_kept, ranks_kept, rules_kept};
-ghost use Rattle.lent.specs.Lent.{table_of, state_of};
+ghost use Rattle.lent.specs.Lent.{table_of, read_of};
 ghost use Rattle.rules.specs.Slices.{forest, set_count, Lent};
 
 use index::resolution;
-use lent::{Marks, State, Table};
+use lent::{Marked, State, Table};
 use slices::at32;
 use slot_rules::{at64, slots_kept};
 use validate::validate;
@@ -80,35 +80,47 @@ fn cells_kept(cells: &[u64], mode: usize, target: usize, held: usize) -> bool
 }
 
 // The state breaks no rule: the table's three slices, and the state's eleven. Each used slot's row points back to it, so that a row's slot
-// number is none or a used slot that holds this row, for every row, where as many rows have a slot as slots are used. Slices are lent on
-// by one and the same length, which tells the compiler that they agree.
-pub fn rules_kept(table: &Table<'_>, state: &State<'_>, marks: &Marks<'_>) -> bool
-    requires { Lent (table_of table.now) (state_of state.now marks.now) }
-    ensures { result ≡ rules_kept (table_of table.now) (state_of state.now marks.now) }
+// number is none or a used slot that holds this row, for every row, where as many rows have a slot as slots are used. The slices are taken
+// out once and lent on by one and the same length, which tells the compiler that they agree.
+pub fn rules_kept(table: &Table<'_>, state: &State<'_>, marks: &Marked<'_>) -> bool
+    requires { Lent (table_of table.now) (read_of state.now marks.now) }
+    ensures { result ≡ rules_kept (table_of table.now) (read_of state.now marks.now) }
 {
-    let mode = at32(state.head, 0);
-    let held = at32(state.head, 1);
-    let fits = (mode <= 1) & (held <= state.cells.len());
+    let State {
+        head,
+        cells,
+        parent,
+        rank,
+        slot_row,
+        slot_cell,
+        prev,
+        next,
+        row_slot,
+    } = *state;
+    let mode = at32(head, 0);
+    let held = at32(head, 1);
+    let fits = (mode <= 1) & (held <= cells.len());
     if !fits {
         return false;
     }
-    let target = resolution(at64(table.edges, 0));
-    let rows = table.edges.len();
-    let slots = state.slot_row.len();
-    cells_kept(state.cells, mode, target, held)
-        & (set_count(state.row_slot) == set_count(state.slot_row))
+    let Table { edges, reverse, .. } = *table;
+    let target = resolution(at64(edges, 0));
+    let rows = edges.len();
+    let slots = slot_row.len();
+    cells_kept(cells, mode, target, held)
+        & (set_count(row_slot) == set_count(slot_row))
         & slots_kept(
-            table.edges,
-            &table.reverse[..rows],
-            state.cells,
-            state.slot_row,
-            &state.slot_cell[..slots],
-            &state.prev[..slots],
-            &state.next[..slots],
-            &state.row_slot[..rows],
+            edges,
+            &reverse[..rows],
+            cells,
+            slot_row,
+            &slot_cell[..slots],
+            &prev[..slots],
+            &next[..slots],
+            &row_slot[..rows],
             held,
         )
         & (all_cleared(marks.row_mark) & all_cleared(marks.cell_mark))
-        & parents_kept(state.parent, state.rank, held)
-        & ranks_kept(state.parent, state.rank, held)
+        & parents_kept(parent, rank, held)
+        & ranks_kept(parent, rank, held)
 }

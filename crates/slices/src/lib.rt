@@ -54,8 +54,11 @@ impl Number for u64 {
 }
 
 // Sets every number of the slice to 0.
+#[tactic(auto, using(crate::proofs::Clearing::clear_more))]
 pub fn clear<T: Number>(s: &mut [T])
     ensures { s.new ≡ replicate (length s.old) T.ZERO }
 {
-    s.fill(T::ZERO);
+    for i in 0..s.len() {
+        s[i] = T::ZERO;
+    }
 }

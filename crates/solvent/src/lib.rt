@@ -27,7 +27,8 @@ pub fn dissolve(
     ensures dissolves { Dissolves (table_of table.now) (memory_of memory.old marks.old) mode list.now (output_of output.old)
         result (memory_of memory.new marks.new) (output_of output.new) }
 {
-    let fits = outputs_agree(output) & lengths_fit(table, &memory.as_state(), marks);
+    let fits = outputs_agree(&output.as_drawn())
+        & lengths_fit(table, &memory.as_state(), &marks.as_marked());
     list_verdict(table, list, mode, memory.places(), fits)?;
     work(table, memory, marks, list, output, mode)
 }

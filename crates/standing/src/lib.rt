@@ -11,7 +11,7 @@ use arcs::Pool;
 use lent::{Marks, Memory, Output, State, Table};
 use reading::read_if;
 use scope::{ReadOut, Refusal};
-use taking::take_all;
+use taking::take_with_marks;
 
 // A newly opened state: 10, 1.
 pub fn open(
@@ -25,7 +25,9 @@ pub fn open(
     ensures opens { Opens (table_of table.now) (memory_of memory.old marks.old) mode
         result (memory_of memory.new marks.new) }
 {
-    open_verdict(table, mode, lengths_fit(table, &memory.as_state(), marks))?;
+    let fits = lengths_fit(table, &memory.as_state(), &marks.as_marked());
+    let allowed = open_verdict(table, mode, fits);
+    allowed?;
     Pool::open(memory, marks, mode);
     Ok(())
 }
@@ -42,9 +44,10 @@ pub fn offer(
     ensures offers { Offers (table_of table.now) (memory_of memory.old marks.old) cell
         result (memory_of memory.new marks.new) }
 {
-    admit_verdict(table, &memory.as_state(), marks, cell)?;
+    let admitted = admit_verdict(table, &memory.as_state(), &marks.as_marked(), cell);
+    admitted?;
     let list = [cell];
-    take_all(table, memory, marks, &list)
+    take_with_marks(table, memory, marks, &list)
 }
 
 // The rings of the state: 10, 1, 9, and 10 where an output is too short.
@@ -59,6 +62,7 @@ pub fn read_out(
     ensures reads_out { ReadsOut (table_of table.now) (state_of state.now marks.old) (output_of output.old)
         result (state_of state.now marks.new) (output_of output.new) }
 {
-    let verdict = state_verdict(table, state, marks, outputs_agree(output));
+    let agree = outputs_agree(&output.as_drawn());
+    let verdict = state_verdict(table, state, &marks.as_marked(), agree);
     read_if(table, state, marks, output, verdict)
 }

@@ -4,6 +4,8 @@ use Prim.Native.Nat.{ℕ}
 use mathlib.Core.Path.{◌≡◌, refl}
 use mathlib.Core.List.{List, [], ◌∷◌, map}
 use lib.Ieee.{Float, nan, of_bits, binary64}
+use Rattle.std.specs.Prelude.{Err}
+use Rattle.scope.specs.declared.Refusal.TheVariants.{BadTable}
 use Rattle.scope.specs.Lists.{all, member, from, first_bad}
 use Rattle.scope.specs.Cells.{valid_cell, is_pentagon, owner_of, valid_edge}
 use Rattle.scope.specs.Table.{Table, table, is_finite, ascends, paired, row_good, table_verdict}
@@ -50,3 +52,8 @@ rows_told = refl
 kept : line (rows fourth 1 0 (of_bits binary64 0x3ff0000000000000)) ≡ []
 unfolding all member from first_bad valid_cell is_pentagon owner_of valid_edge is_finite ascends paired row_good table_verdict checked of_bits line rows table_text
 kept = refl
+
+-- and a verdict that points at a row of it, which no check gives: the row is told to be sound
+sound_told : table_text (ascii "T") (rows fourth 1 0 (of_bits binary64 0x3ff0000000000000)) (Err (BadTable 1)) ≡ ascii "T row 1, byte 20: refused 1, this row breaks no rule\n"
+unfolding all member from first_bad valid_cell is_pentagon owner_of valid_edge is_finite ascends of_bits rows table_text fault_of whole_fault row_fault refusal_number refusal_index shown numeral numeral_in
+sound_told = refl

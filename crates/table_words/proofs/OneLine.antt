@@ -18,9 +18,8 @@ use Rattle.table_words.specs.declared.rules.RowFault.{RowFault}
 use Rattle.table_words.specs.declared.rules.RowFault.TheVariants as row
 use Rattle.table_words.specs.declared.rules.Fault.{Fault}
 use Rattle.table_words.specs.declared.rules.Fault.TheVariants as fault
-use Rattle.table_words.specs.Faults.{fault_of, Breaks}
-use Rattle.table_words.proofs.Broken.{fault_broken}
-use Rattle.table_words.specs.Words.{whole_words, row_words, fault_words, fault_place, fault_text, told_text, table_text}
+use Rattle.table_words.specs.Faults.{fault_of}
+use Rattle.table_words.specs.Words.{whole_words, row_words, fault_words, row_place, fault_place, fault_text, told_text, table_text}
 
 whole_unbroken : (f : WholeFault) → unbroken (whole_words f) ≡ true
 unfolding whole_words unbroken
@@ -43,29 +42,40 @@ unfolding fault_words
 words_unbroken (fault.Whole f) = whole_unbroken f
 words_unbroken (fault.Row f) = row_unbroken f
 
+row_place_unbroken : (index : ℕ) → unbroken (row_place index) ≡ true
+unfolding unbroken
+row_place_unbroken index = unbroken_more (noted (ascii " row ") index (ascii "")) _ (number_unbroken index _ refl) (number_unbroken (20 * index) _ refl)
+
 place_unbroken : (f : Fault) (index : ℕ) → unbroken (fault_place f index) ≡ true
 unfolding fault_place unbroken
 place_unbroken (fault.Whole f) index = refl
-place_unbroken (fault.Row f) index = unbroken_more (noted (ascii " row ") index (ascii "")) _ (number_unbroken index _ refl) (number_unbroken (20 * index) _ refl)
+place_unbroken (fault.Row f) index = row_place_unbroken index
 
-pub fault_line : (name : List ℕ) (number index : ℕ) (f : Fault) → one_line (fault_text name number index f) ≡ true
-unfolding fault_text unbroken one_line
-fault_line name number index f = line_behind (shown name ++ fault_place f index ++ noted (ascii "refused ") number (ascii ", ") ++ fault_words f) _
-    (unbroken_more (shown name ++ fault_place f index ++ noted (ascii "refused ") number (ascii ", ")) _
-    (unbroken_more (shown name ++ fault_place f index) _
-    (unbroken_more (shown name) _ (shown_unbroken name) (place_unbroken f index))
+-- the name, a place, the number and words, of which none breaks a line
+words_line : (name : List ℕ) (number : ℕ) (place words : List ℕ) → unbroken place ≡ true → unbroken words ≡ true
+    → one_line (shown name ++ place ++ noted (ascii "refused ") number (ascii ", ") ++ words ++ ascii "\n") ≡ true
+unfolding unbroken one_line
+words_line name number place words p w = line_behind (shown name ++ place ++ noted (ascii "refused ") number (ascii ", ") ++ words) _
+    (unbroken_more (shown name ++ place ++ noted (ascii "refused ") number (ascii ", ")) _
+    (unbroken_more (shown name ++ place) _
+    (unbroken_more (shown name) _ (shown_unbroken name) p)
     (number_unbroken number _ refl))
-    (words_unbroken f))
+    w)
     refl
 
-told_line : (t : Table) (i : ℕ) (name : List ℕ) (number : ℕ) (r : Result (Unit {0}) Fault) → Breaks t i r → one_line (told_text name number i r) ≡ true
-unfolding Breaks
-told_line t i name number (Err f) p = fault_line name number i f
-told_line t i name number (Ok sound) p = absurd p
+pub fault_line : (name : List ℕ) (number index : ℕ) (f : Fault) → one_line (fault_text name number index f) ≡ true
+unfolding fault_text
+fault_line name number index f = words_line name number (fault_place f index) (fault_words f) (place_unbroken f index) (words_unbroken f)
+
+-- of a row that breaks no rule too
+pub told_line : (name : List ℕ) (number index : ℕ) (r : Result (Unit {0}) Fault) → one_line (told_text name number index r) ≡ true
+unfolding unbroken
+told_line name number index (Err f) = fault_line name number index f
+told_line name number index (Ok sound) = words_line name number (row_place index) (ascii "this row breaks no rule") (row_place_unbroken index) refl
 
 -- what `tell_table` writes where the table is refused
 pub table_line : (name : List ℕ) (t : Table) {why : Refusal} → checked t ≡ Err why → one_line (table_text name t (checked t)) ≡ true
 unfolding table_text
 table_line name t {why} e =
     ap (λ (v : Verdict). one_line (table_text name t v)) e
-    ∙ told_line t (refusal_index why) name (refusal_number why) (fault_of t (refusal_index why)) (fault_broken t why e)
+    ∙ told_line name (refusal_number why) (refusal_index why) (fault_of t (refusal_index why))

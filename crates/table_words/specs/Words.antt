@@ -32,18 +32,22 @@ unfoldable pub fault_words : Fault → List ℕ
 fault_words (fault.Whole f) = whole_words f
 fault_words (fault.Row f) = row_words f
 
--- where a row has the fault, the row and its first byte: the first is row 0, and each has 20 bytes
+-- the row and its first byte: the first is row 0, and each has 20 bytes
+abbrev pub row_place : ℕ → List ℕ
+row_place index = noted (ascii " row ") index (ascii "") ++ noted (ascii ", byte ") (20 * index) (ascii ": ")
+
+-- where a row has the fault, that row
 unfoldable pub fault_place : Fault → ℕ → List ℕ
 fault_place (fault.Whole f) index = ascii ": "
-fault_place (fault.Row f) index = noted (ascii " row ") index (ascii "") ++ noted (ascii ", byte ") (20 * index) (ascii ": ")
+fault_place (fault.Row f) index = row_place index
 
 unfoldable pub fault_text : List ℕ → ℕ → ℕ → Fault → List ℕ
 fault_text name number index f = shown name ++ fault_place f index ++ noted (ascii "refused ") number (ascii ", ") ++ fault_words f ++ ascii "\n"
 
--- nothing where no rule is broken
+-- where no rule is broken, a row that breaks none; the check of a table points at no such row
 abbrev pub told_text : List ℕ → ℕ → ℕ → Result (Unit {0}) Fault → List ℕ
 told_text name number index (Err f) = fault_text name number index f
-told_text name number index (Ok sound) = []
+told_text name number index (Ok sound) = shown name ++ row_place index ++ noted (ascii "refused ") number (ascii ", ") ++ ascii "this row breaks no rule" ++ ascii "\n"
 
 -- nothing where the table keeps the rules
 unfoldable pub table_text : List ℕ → Table → Verdict → List ℕ

@@ -1,12 +1,12 @@
 // The cells of a list in turn, over lent scratch.
 ghost use Rattle.std.specs.Prelude.{◌≡◌, length};
-ghost use Rattle.lent.specs.Lent.{table_of, memory_of, SameMemory, SameMarks};
+ghost use Rattle.lent.specs.Lent.{table_of, memory_with, SameMemory};
 ghost use Rattle.placing.specs.Place.{free_in};
 ghost use Rattle.taking.specs.Taking.{ScratchAsks, TakesAll};
 
 use crate::scratch::note_some;
 use crate::take::take_cell;
-use lent::{Marks, Memory, Table};
+use lent::{Memory, Table};
 use placing::count_free;
 use scope::Refusal;
 
@@ -26,15 +26,16 @@ fn free_slots(memory: &Memory<'_>) -> usize
 pub(crate) fn take_list(
     table: &Table<'_>,
     memory: &mut Memory<'_>,
-    marks: &mut Marks<'_>,
+    cell_mark: &[u32],
+    row_mark: &mut [u32],
     notes: &mut [u32],
     rows: &mut [u32],
     list: &[u64],
 ) -> Result<(), Refusal>
-    requires { ScratchAsks (table_of table.now) (memory_of memory.old marks.old) rows.old list.now }
+    requires { ScratchAsks (table_of table.now) (memory_with memory.old cell_mark.now row_mark.old) rows.old list.now }
     ensures same_memory { SameMemory memory.old memory.new }
-    ensures same_marks { SameMarks marks.old marks.new }
-    ensures takes_all { TakesAll (table_of table.now) (memory_of memory.old marks.old) list.now result (memory_of memory.new marks.new) }
+    ensures takes_all { TakesAll (table_of table.now) (memory_with memory.old cell_mark.now row_mark.old) list.now
+        result (memory_with memory.new cell_mark.now row_mark.new) }
 {
     let noted = note_some(table.edges, notes, list.len());
     let mut vacant = [ALL; WORDS];
@@ -43,7 +44,8 @@ pub(crate) fn take_list(
         free = take_cell(
             table,
             memory,
-            marks,
+            cell_mark,
+            row_mark,
             &notes[..noted],
             rows,
             &mut vacant,

@@ -7,7 +7,7 @@ mod zone;
 
 use arguments::{argument, argument_count, begin};
 use command_line::tools::Tool;
-use desk::arrays::{PLACES, ROWS, TEXT, zeros};
+use desk::arrays::{place_zeros, row_zeros, text_zeros};
 use desk::load_cells;
 use desk::tables::load_sound_table;
 use desk::words::say_report;
@@ -15,17 +15,17 @@ use lent::Table;
 use std::rt::{Env, Files};
 use zone::import_list;
 
-// Imports the list in a file.
+// Imports the list in a file, over its cells and their lines.
 fn import_file<R: Files>(
     rt: &R,
     text: &mut [u8],
+    cells: &mut [u64],
+    lines: &mut [usize],
     table_name: &[u8],
     list_name: &[u8],
     table: &Table<'_>,
 ) {
-    let mut cells = zeros::<u64, PLACES>();
-    let mut lines = zeros::<usize, PLACES>();
-    let Some(count) = load_cells(rt, list_name, text, &mut cells, &mut lines) else {
+    let Some(count) = load_cells(rt, list_name, text, cells, lines) else {
         return;
     };
     let report = import_list(
@@ -43,16 +43,18 @@ fn import_file<R: Files>(
 fn import_word<R: Files + Env>(
     rt: &R,
     text: &mut [u8],
+    cells: &mut [u64],
+    lines: &mut [usize],
     table_name: &[u8],
     table: &Table<'_>,
     k: usize,
 ) {
     let mut name = io::buffer();
     let size = argument(rt, k, &mut name);
-    import_file(rt, text, table_name, &name[..size], table);
+    import_file(rt, text, cells, lines, table_name, &name[..size], table);
 }
 
-// Imports the lists, which are all words from the first of them on.
+// Imports the lists, which are all words from the first of them on. Each is loaded into the same arrays, so that they are cleared once.
 fn import_words<R: Files + Env>(
     rt: &R,
     text: &mut [u8],
@@ -60,17 +62,21 @@ fn import_words<R: Files + Env>(
     table: &Table<'_>,
     first: usize,
 ) {
+    let mut cells = place_zeros::<u64>();
+    let mut lines = place_zeros::<usize>();
     for k in first..argument_count(rt) {
-        import_word(rt, text, table_name, table, k);
+        import_word(rt, text, &mut cells, &mut lines, table_name, table, k);
     }
 }
 
-// Loads the table and goes on where it keeps the rules: one that does not is told once, and not for each zone.
+// Loads the table and goes on where it keeps the rules: one that does not is told once, and not for each zone. A call of its own, so
+// that help and complaints take no stack for its arrays.
+#[inline(never)]
 fn import_all<R: Files + Env>(rt: &R, table_name: &[u8], first: usize) {
-    let mut text = zeros::<u8, TEXT>();
-    let mut edges = zeros::<u64, ROWS>();
-    let mut reverse = zeros::<u32, ROWS>();
-    let mut area = zeros::<f64, ROWS>();
+    let mut text = text_zeros();
+    let mut edges = row_zeros::<u64>();
+    let mut reverse = row_zeros::<u32>();
+    let mut area = row_zeros::<f64>();
     let Some(rows) = load_sound_table(
         rt,
         table_name,

@@ -2,11 +2,11 @@
 ghost use Rattle.std.specs.Prelude.{◌≡◌};
 ghost use Rattle.scope.specs.Table.{table};
 ghost use Rattle.scope.specs.Bytes.{rows_in, table_in, state_bytes};
-ghost use Rattle.lent.specs.Lent.{memory_of, state_of, SameMemory, SameMarks};
+ghost use Rattle.lent.specs.Lent.{memory_of, read_of, SameMemory, SameMarks};
 ghost use Rattle.wire.specs.Sizes.{TableSized, StateRoom, state_like};
 
 use codec::{decode, encode};
-use lent::{Marks, Memory, State};
+use lent::{Marked, Marks, Memory, State};
 
 // The table of `bytes`, rows of 20 bytes. Its slices stand apart, since they are written here: a `Table` lends them to be read.
 pub fn decode_table(bytes: &[u8], edges: &mut [u64], reverse: &mut [u32], area: &mut [f64])
@@ -44,9 +44,9 @@ pub fn decode_state(bytes: &[u8], memory: &mut Memory<'_>, marks: &mut Marks<'_>
 }
 
 // A whole state back into its bytes.
-pub fn encode_state(bytes: &mut [u8], state: &State<'_>, marks: &Marks<'_>)
-    requires { StateRoom bytes.old (state_of state.now marks.now) }
-    ensures { bytes.new ≡ state_bytes (state_of state.now marks.now) }
+pub fn encode_state(bytes: &mut [u8], state: &State<'_>, marks: &Marked<'_>)
+    requires { StateRoom bytes.old (read_of state.now marks.now) }
+    ensures { bytes.new ≡ state_bytes (read_of state.now marks.now) }
 {
     let places = state.cells.len();
     let slots = state.slot_row.len();

@@ -8,7 +8,7 @@ ghost use Rattle.std.specs.Prelude.{◌≡◌};
 ghost use Rattle.desk.specs.Loads.{count_of};
 ghost use Rattle.worked_examples.specs.BaseCells.{all_of_base};
 
-use desk::arrays::{EDGES, ROWS, TEXT, zeros};
+use desk::arrays::{EDGES, row_zeros, text_zeros};
 use desk::load_table;
 use full_size::dissolve_list;
 use lent::Table;
@@ -63,10 +63,10 @@ fn rows_of(loaded: Option<usize>) -> usize
 
 // Dissolves a list of cells over the table of a file, and shows what comes of it.
 fn show_zone<R: Files + Print>(rt: &R, title: &str, file: &[u8], list: &[u64], mode: usize) {
-    let mut edges = zeros::<u64, ROWS>();
-    let mut reverse = zeros::<u32, ROWS>();
-    let mut area = zeros::<f64, ROWS>();
-    let mut text = zeros::<u8, TEXT>();
+    let mut edges = row_zeros::<u64>();
+    let mut reverse = row_zeros::<u32>();
+    let mut area = row_zeros::<f64>();
+    let mut text = text_zeros();
     let loaded = load_table(rt, file, &mut text, &mut edges, &mut reverse, &mut area);
     let rows = rows_of(loaded);
     let cells = list.len();

@@ -10,7 +10,7 @@ ghost use Rattle.desk.specs.Loads.{count_of};
 
 use arguments::{argument, begin};
 use command_line::tools::Tool;
-use desk::arrays::{OFFERS, ROWS, TEXT, zeros};
+use desk::arrays::{offer_zeros, row_zeros, text_zeros};
 use desk::load_cells;
 use desk::tables::load_sound_table;
 use desk::words::say_report;
@@ -28,7 +28,7 @@ fn load_rows<R: Files>(
 ) -> Option<usize>
     ensures { (count_of result ≤ length edges.old) × (count_of result ≤ length reverse.old) × (count_of result ≤ length area.old) }
 {
-    let mut text = zeros::<u8, TEXT>();
+    let mut text = text_zeros();
     load_sound_table(rt, path, &mut text, edges, reverse, area)
 }
 
@@ -36,17 +36,19 @@ fn load_rows<R: Files>(
 fn load_feed<R: Files>(rt: &R, path: &[u8], cells: &mut [u64]) -> Option<usize>
     ensures { count_of result ≤ length cells.old }
 {
-    let mut text = zeros::<u8, TEXT>();
-    let mut lines = zeros::<usize, OFFERS>();
+    let mut text = text_zeros();
+    let mut lines = offer_zeros::<usize>();
     load_cells(rt, path, &mut text, cells, &mut lines)
 }
 
-// Loads the two files and, where both can be taken, prints what came of the audit.
+// Loads the two files and, where both can be taken, prints what came of the audit. A call of its own, so that help and complaints take no
+// stack for its arrays.
+#[inline(never)]
 fn audit_files<R: Files>(rt: &R, table_name: &[u8], feed_name: &[u8]) {
-    let mut edges = zeros::<u64, ROWS>();
-    let mut reverse = zeros::<u32, ROWS>();
-    let mut area = zeros::<f64, ROWS>();
-    let mut cells = zeros::<u64, OFFERS>();
+    let mut edges = row_zeros::<u64>();
+    let mut reverse = row_zeros::<u32>();
+    let mut area = row_zeros::<f64>();
+    let mut cells = offer_zeros::<u64>();
     let Some(rows) = load_rows(rt, table_name, &mut edges, &mut reverse, &mut area) else {
         return;
     };

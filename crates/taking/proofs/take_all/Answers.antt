@@ -1,11 +1,11 @@
--- `taking::take_all` meets its contract. There is room for the rows in a short array where few suffice, else in a long one.
+-- `taking::take_all` meets its contract. There is room for the rows in a short array where few suffice.
 -- Assumes nothing.
 use native.Mathlib.Omega.{arith}
 use mathlib.Core.Path.{sym, ◌∙◌}
 use Prim.Native.Nat.{ℕ}
 use lib.ListN.{length-replicate}
 use Rattle.scope.proofs.Sound.{sound_table}
-use Rattle.taking.proofs.Rooms.{room_all, room_few}
+use Rattle.taking.proofs.Rooms.{room_few}
 use Rattle.taking.proofs.take_all.Goals as goal
 
 pub few_suffice-requires : goal.few_suffice-requires
@@ -16,8 +16,3 @@ take_list-requires c =
     let a = c.args in
     let few = sym c.few_suffice.ensures ∙ c.if-few_suffice.true in
     record { asks = c.requires; room = room_few a.table.now.edges.now a.list.now few (omega (arith, length-replicate {A = ℕ} 4096 0)) }
-
-pub take_list-requires-2 : goal.take_list-requires-2
-take_list-requires-2 c =
-    let p = c.requires in
-    record { asks = p; room = λ i h. room_all (omega (arith, (sound_table p.sound).most, c.blank-2.ensures)) }

@@ -1,5 +1,6 @@
 -- `zone_lines::put_zone` meets its contract. By the answer.
 -- Assumes nothing.
+use Rattle.std.proofs.Common.{rules}
 use Rattle.zone_lines.specs.Zones.{zone_text}
 use Rattle.zone_lines.proofs.put_zone.Goals as goal
 
@@ -9,4 +10,4 @@ returns-in-Ok c = rw c.in-Ok.is c.put_read_out.ensures
 
 pub returns-in-Err : goal.returns-in-Err
 unfolding zone_text
-returns-in-Err c = rw c.in-Err.is (rw (c.at_or-line.ensures, c.index.ensures) at c.put_refusal.ensures)
+returns-in-Err c = rw c.in-Err.is (search rules)

@@ -3,8 +3,8 @@
 use native.Mathlib.Omega.{arith}
 use mathlib.Core.Path.{◌≡◌, refl, ◌∙◌}
 use Rattle.std.proofs.Common.{rules, Err}
-use Rattle.lent.specs.Lent.{memory_of}
-use Rattle.lent.proofs.Same.{memory_refl, marks_refl, memory_on, marks_on}
+use Rattle.lent.specs.Lent.{memory_with}
+use Rattle.lent.proofs.Same.{memory_refl, memory_on}
 use Rattle.scope.proofs.Sound.{sound_table}
 use Rattle.taking.proofs.InTurn.{free_slots_lem, turn_start, turn_asks, turn_stops, turn_on, turn_end}
 use Rattle.taking.proofs.list.take_list.Goals as goal
@@ -14,8 +14,8 @@ note_some-noted-requires c = omega (arith, (sound_table c.requires.asks.sound).m
 
 pub loop-cell-init : goal.loop-cell-init
 loop-cell-init c =
-    let m = memory_of c.args.memory.now c.args.marks.now in
-    (turn_start c.requires (free_slots_lem m c.free_slots-free.ensures), refl, memory_refl c.args.memory.now, marks_refl c.args.marks.now)
+    let m = memory_with c.args.memory.now c.args.cell_mark.now c.args.row_mark.now in
+    (turn_start c.requires (free_slots_lem m c.free_slots-free.ensures), refl, memory_refl c.args.memory.now)
 
 pub take_cell-requires : goal.take_cell-requires
 take_cell-requires c = turn_asks c.loop-cell.invariant.0 c.loop-cell-test.true
@@ -29,7 +29,7 @@ pub loop-cell-preserved : goal.loop-cell-preserved
 loop-cell-preserved c =
     let taking = c.take_cell in
     let inv = c.loop-cell.invariant in
-    (turn_on inv.0 c.loop-cell-test.true taking.ensures.takes c.in_ok-free.was taking.auto.rows taking.auto.vacant, taking.auto.rows ∙ inv.1, memory_on inv.2 taking.ensures.same_memory, marks_on inv.3 taking.ensures.same_marks)
+    (turn_on inv.0 c.loop-cell-test.true taking.ensures.takes c.in_ok-free.was taking.auto.rows taking.auto.vacant, taking.auto.rows ∙ inv.1, memory_on inv.2 taking.ensures.same_memory)
 
 pub returns-clause-takes_all : goal.returns-clause-takes_all
 returns-clause-takes_all c = turn_end c.loop-cell.invariant.0 c.loop-cell-test.false

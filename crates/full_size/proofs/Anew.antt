@@ -3,6 +3,7 @@
 --     dissolve_anew     that law
 --     Full, full_sized     memory is of full size, by the lengths of its slices
 --     lent_full, drawn_full     in full memory itself, dissolve is what the contract says
+--     drawn_anew     and in arrays of a full state, whatever they hold
 -- Assumes nothing.
 use Prim.Native.Nat.{ℕ, min}
 use mathlib.Core.Path.{◌≡◌, refl, sym, ◌∙◌, ap}
@@ -15,6 +16,7 @@ use Rattle.scope.specs.Memory.{Memory, Output, lengths_fit}
 use Rattle.scope.specs.Calls.{Reading, reading, open_verdict, dissolve_verdict, working, dissolving}
 use Rattle.scope.specs.Bytes.{cleared}
 use Rattle.lent.specs.declared.arrays.Sizes.{Sizes}
+use Rattle.lent.specs.Arrays.{HasSizes}
 use Rattle.taking.proofs.Sizes.{Sized, opened_same}
 use Rattle.full_size.specs.Drawing.{drawn, full_memory, drawing}
 
@@ -98,3 +100,25 @@ lent_full t e f = e ∙ ap (λ (k : Sizes). cleared k.rows k.slots k.places) f
 pub drawn_full : (t : Table) (mode : ℕ) (cs : List ℕ) (o : Output) {m : Memory} {d : Reading} → m ≡ full_memory t → d ≡ dissolving t m mode cs o → drawn d ≡ drawing t mode cs o
 unfolding drawing
 drawn_full t mode cs o f e = ap (λ (k : Reading). drawn k) e ∙ ap (λ (k : Memory). drawn (dissolving t k mode cs o)) f
+
+-- ---- in arrays that hold anything
+
+lent_long : (t : Table) (m : Memory) {s : Sizes} → HasSizes s m → s ≡ record { rows = min (row_count t) 65536; slots = 65536; places = 16384 } → Full t m
+lent_long t m h e = record {
+  head = sym h.head;
+  cells = sym (h.cells ∙ ap (λ (k : Sizes). k.places) e);
+  parent = sym (h.parent ∙ ap (λ (k : Sizes). k.places) e);
+  rank = sym (h.rank ∙ ap (λ (k : Sizes). k.places) e);
+  cell_mark = sym (h.cell_mark ∙ ap (λ (k : Sizes). k.places) e);
+  slot_row = sym (h.slot_row ∙ ap (λ (k : Sizes). k.slots) e);
+  slot_cell = sym (h.slot_cell ∙ ap (λ (k : Sizes). k.slots) e);
+  prev = sym (h.prev ∙ ap (λ (k : Sizes). k.slots) e);
+  next = sym (h.next ∙ ap (λ (k : Sizes). k.slots) e);
+  row_slot = sym (h.row_slot ∙ ap (λ (k : Sizes). k.rows) e);
+  row_mark = sym (h.row_mark ∙ ap (λ (k : Sizes). k.rows) e);
+}
+
+pub drawn_anew : (t : Table) (mode : ℕ) (cs : List ℕ) (o : Output) {m : Memory} {s : Sizes} {d : Reading} → HasSizes s m → s ≡ record { rows = min (row_count t) 65536; slots = 65536; places = 16384 }
+    → d ≡ dissolving t m mode cs o → drawn d ≡ drawing t mode cs o
+unfolding drawing
+drawn_anew t mode cs o {m} h e r = ap (λ (k : Reading). drawn k) r ∙ dissolve_anew t mode cs o (full_sized t m (lent_long t m h e))

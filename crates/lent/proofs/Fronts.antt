@@ -8,9 +8,9 @@ use lib.Ieee.{Float}
 use lib.ListN.{take, replicate, length-replicate, replicate-append-replicate}
 use lib.Seq.{take_at}
 use Rattle.scope.specs.Area.{positive_zero}
-use Rattle.scope.specs.Memory.{Memory, Output, memory, output}
+use Rattle.scope.specs.Memory.{Memory, Output, output}
 use Rattle.scope.specs.Bytes.{cleared}
-use Rattle.lent.specs.Arrays.{Few, outputs_within}
+use Rattle.lent.specs.Arrays.{first_of, Few, outputs_within}
 use Rattle.lent.specs.declared.arrays.Sizes.{Sizes}
 
 front : {A : Type 0} (n k : ℕ) (x : A) → n ≤ k → take n (replicate k x) ≡ replicate n x
@@ -19,9 +19,7 @@ front n k x h =
     ap (take n) (ap (λ (j : ℕ). replicate j x) e ∙ sym (replicate-append-replicate n (k - n) x)) ∙ take_at (replicate n x) (replicate (k - n) x) n (length-replicate n x)
 
 pub first_columns : {m : Memory} {s : Sizes} {rows slots places : ℕ} → m ≡ cleared rows slots places → Few s rows slots places
-    → memory m.head (take s.places m.cells) (take s.places m.parent) (take s.places m.rank) (take s.places m.cell_mark)
-    (take s.slots m.slot_row) (take s.slots m.slot_cell) (take s.slots m.prev) (take s.slots m.next) (take s.rows m.row_slot) (take s.rows m.row_mark)
-    ≡ cleared s.rows s.slots s.places
+    → first_of s m ≡ cleared s.rows s.slots s.places
 unfolding cleared
 first_columns {m} {s} {rows} {slots} {places} e few =
     rw (e, front {A = ℕ} s.rows rows 0 few.rows, front {A = ℕ} s.slots slots 0 few.slots, front {A = ℕ} s.places places 0 few.places)

@@ -3,7 +3,7 @@
 ghost use Rattle.std.specs.Prelude.{◌≡◌, ◌≤◌};
 ghost use Rattle.scope.specs.Bytes.{cleared};
 ghost use Rattle.lent.specs.Lent.{memory_of, output_of};
-ghost use Rattle.lent.specs.Arrays.{columns_of, outputs_of, Few, outputs_within};
+ghost use Rattle.lent.specs.Arrays.{columns_of, outputs_of, first_of, Few, HasSizes, outputs_within};
 
 use crate::{Marks, Memory, Output};
 
@@ -55,6 +55,15 @@ impl<const ROWS: usize, const SLOTS: usize, const PLACES: usize> StateArrays<ROW
         requires new { columns_of self.old ≡ cleared ROWS SLOTS PLACES }
         requires few { Few sizes ROWS SLOTS PLACES }
         ensures { memory_of result.0 result.1 ≡ cleared sizes.rows sizes.slots sizes.places }
+    {
+        self.lend_again(sizes)
+    }
+
+    // Memory of these sizes that holds what the arrays do, such as what a call before left there.
+    pub fn lend_again(&mut self, sizes: Sizes) -> (Memory<'_>, Marks<'_>)
+        requires { Few sizes ROWS SLOTS PLACES }
+        ensures holds { memory_of result.0 result.1 ≡ first_of sizes (columns_of self.old) }
+        ensures sized { HasSizes sizes (memory_of result.0 result.1) }
     {
         let Self {
             head,

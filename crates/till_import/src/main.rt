@@ -13,11 +13,12 @@ use desk::tables::load_sound_table;
 use desk::words::say_report;
 use lent::Table;
 use std::rt::{Env, Files};
-use zone::import_list;
+use zone::{FullArrays, import_list};
 
 // Imports the list in a file, over its cells and their lines.
 fn import_file<R: Files>(
     rt: &R,
+    arrays: &mut FullArrays,
     text: &mut [u8],
     cells: &mut [u64],
     lines: &mut [usize],
@@ -29,6 +30,7 @@ fn import_file<R: Files>(
         return;
     };
     let report = import_list(
+        arrays,
         text,
         table_name,
         list_name,
@@ -42,6 +44,7 @@ fn import_file<R: Files>(
 // Imports the list that word number k of the command line names.
 fn import_word<R: Files + Env>(
     rt: &R,
+    arrays: &mut FullArrays,
     text: &mut [u8],
     cells: &mut [u64],
     lines: &mut [usize],
@@ -51,10 +54,19 @@ fn import_word<R: Files + Env>(
 ) {
     let mut name = io::buffer();
     let size = argument(rt, k, &mut name);
-    import_file(rt, text, cells, lines, table_name, &name[..size], table);
+    import_file(
+        rt,
+        arrays,
+        text,
+        cells,
+        lines,
+        table_name,
+        &name[..size],
+        table,
+    );
 }
 
-// Imports the lists, which are all words from the first of them on. Each is loaded into the same arrays, so that they are cleared once.
+// Imports the lists, which are all words from the first of them on. Each is loaded and dissolved in the same arrays, so that they are made once.
 fn import_words<R: Files + Env>(
     rt: &R,
     text: &mut [u8],
@@ -62,10 +74,20 @@ fn import_words<R: Files + Env>(
     table: &Table<'_>,
     first: usize,
 ) {
+    let mut arrays = FullArrays::new();
     let mut cells = place_zeros::<u64>();
     let mut lines = place_zeros::<usize>();
     for k in first..argument_count(rt) {
-        import_word(rt, text, &mut cells, &mut lines, table_name, table, k);
+        import_word(
+            rt,
+            &mut arrays,
+            text,
+            &mut cells,
+            &mut lines,
+            table_name,
+            table,
+            k,
+        );
     }
 }
 

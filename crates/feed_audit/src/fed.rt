@@ -27,7 +27,8 @@ pub struct Answers {
     pub standing: Result<ReadOut, Refusal>,
 }
 
-// The same, and how many cells are held.
+// The same, and how many cells are held: a number beside the list, since what the whole list holds is promised, of which a slice that is
+// handed back says nothing.
 #[derive(Clone, Copy)]
 pub struct Stood {
     pub answers: Answers,

@@ -1,0 +1,111 @@
+-- A tool goes on with both its files: in a line of words no list stands without a table.
+--     both_named     where such a line is ready, the files that it hands on are the table and the list of its words
+-- Assumes nothing.
+use Prim.Native.Nat.{ℕ, suc}
+use mathlib.Core.Path.{◌≡◌, refl, sym, ◌∙◌, ap, subst}
+use mathlib.Core.Bool.{Bool, true, false, cond}
+use mathlib.Core.List.{List, [], ◌∷◌}
+use Rattle.std.specs.Prelude.{Option, Some, None, Result, Ok, Err}
+use Rattle.command_line.specs.declared.tools.Tool.{Tool}
+use Rattle.command_line.specs.declared.words.Word.{Word}
+use Rattle.command_line.specs.declared.words.Word.TheVariants.{Help, Rows, Mode, Even, Mixed, File}
+use Rattle.command_line.specs.declared.line.Line.{Line}
+use Rattle.command_line.specs.declared.line.Command.{Command}
+use Rattle.command_line.specs.declared.line.Stop.{Stop}
+use Rattle.command_line.specs.declared.line.Stop.TheVariants as stop
+use Rattle.command_line.specs.Tools.{takes_many}
+use Rattle.command_line.specs.Words.{word_of}
+use Rattle.command_line.specs.Lines.{no_words, with_help, with_fault, beyond_table, file_behind, file_taken, mode_taken, word_taken, is_help, unless_faulty, known_taken, taken, line_from, line_of, number_of, with_files, unless_fault, status_of}
+
+-- no list, or a table
+abbrev Behind : Option ℕ → Option ℕ → Type 0
+Behind (Some table) list = Unit {0}
+Behind None None = Unit {0}
+Behind None (Some list) = ⊥
+
+-- ---- a word keeps it so
+
+record Named (o : Line) : Type 0 where
+  behind : Behind o.table o.list
+
+either : (b : Bool) {x y : Line} → Named x → Named y → Named (cond b x y)
+either true p q = p
+either false p q = q
+
+module _ (t : Tool) (o : Line) (k : ℕ) (h : Named o) where
+  over : Named (with_fault o (suc k))
+  over = record { behind = h.behind }
+
+  beyond_names : (table : ℕ) (list : Option ℕ) → o.table ≡ Some table → Named (beyond_table t o (suc k) list)
+  beyond_names table None e = record { behind = subst (λ (x : Option ℕ). Behind x (Some (suc k))) (sym e) tt }
+  beyond_names table (Some list) e = either (takes_many t) h over
+
+  behind_names : (table : Option ℕ) → o.table ≡ table → Named (file_behind t o (suc k) table)
+  behind_names None e = record { behind = tt }
+  behind_names (Some table) e = beyond_names table o.list e
+
+  file_names : Named (file_taken t o (suc k))
+  unfolding file_taken
+  file_names = behind_names o.table refl
+
+  mode_names : (w : Option Word) → Named (mode_taken o (suc k) w)
+  unfolding mode_taken
+  mode_names (Some Help) = over
+  mode_names (Some Rows) = over
+  mode_names (Some Mode) = over
+  mode_names (Some Even) = record { behind = h.behind }
+  mode_names (Some Mixed) = record { behind = h.behind }
+  mode_names (Some File) = over
+  mode_names None = over
+
+  word_names : (w : Option Word) → Named (word_taken t o (suc k) w)
+  unfolding word_taken
+  word_names (Some Help) = record { behind = h.behind }
+  word_names (Some Rows) = record { behind = h.behind }
+  word_names (Some Mode) = record { behind = h.behind }
+  word_names (Some Even) = file_names
+  word_names (Some Mixed) = file_names
+  word_names (Some File) = file_names
+  word_names None = over
+
+  unless_names : (r : Line) (fault : Option ℕ) → Named r → Named (unless_faulty fault o r)
+  unless_names r None g = g
+  unless_names r (Some j) g = h
+
+  names : (w : Option Word) → Named (known_taken t o (suc k) w)
+  unfolding known_taken
+  names w =
+      either (is_help w) {x = with_help o} (record { behind = h.behind })
+      (unless_names _ o.fault (either o.mode_wanted (mode_names w) (word_names w)))
+
+all_name : (t : Tool) (o : Line) (k : ℕ) (ws : List (List ℕ)) → Named o → Named (line_from t (suc k) o ws)
+unfolding line_from
+all_name t o k [] h = h
+all_name t o k (w ∷ ws) h = all_name t (taken t o (suc k) w) (suc k) ws (names t o k h (word_of t w))
+
+-- ---- so what is ready has both
+
+abbrev table_word : Result Command Stop → ℕ
+table_word (Ok c) = c.table
+table_word (Err s) = 0
+
+abbrev list_word : Result Command Stop → ℕ
+list_word (Ok c) = c.list
+list_word (Err s) = 0
+
+ready : (o : Line) (help wanted : Bool) (fault table list : Option ℕ) (c : Command) → o.table ≡ table → o.list ≡ list → Behind table list
+    → cond help (Err stop.Help) (unless_fault fault (cond wanted (Err stop.ModeWanted) (with_files o list))) ≡ Ok c → (o.table ≡ Some c.table) × (o.list ≡ Some c.list)
+ready o true wanted fault table list c e f h q = cc
+ready o false wanted (Some k) table list c e f h q = cc
+ready o false true None table list c e f h q = cc
+ready o false false None table None c e f h q = cc
+ready o false false None None (Some list) c e f h q = absurd h
+ready o false false None (Some table) (Some list) c e f h q = (
+  e ∙ ap (λ (k : ℕ). Some k) (sym (ap number_of e) ∙ ap table_word q),
+  f ∙ ap (λ (k : ℕ). Some k) (ap list_word q),
+)
+
+pub both_named : (t : Tool) (ws : List (List ℕ)) (c : Command) → status_of (line_of t ws) ≡ Ok c
+    → ((line_of t ws).table ≡ Some c.table) × ((line_of t ws).list ≡ Some c.list)
+unfolding status_of
+both_named t ws c q = let o = line_of t ws in ready o o.help o.mode_wanted o.fault o.table o.list c refl refl (all_name t no_words 0 ws (record { behind = tt })).behind q

@@ -27,8 +27,8 @@ pub struct Answers {
     pub standing: Result<ReadOut, Refusal>,
 }
 
-// The same, and how many cells are held: a number beside the list, since what the whole list holds is promised, of which a slice that is
-// handed back says nothing.
+// The same, and how many cells are held: a number beside the list, since what stands in front of the list is promised, of which a slice
+// that is handed back says nothing.
 #[derive(Clone, Copy)]
 pub struct Stood {
     pub answers: Answers,

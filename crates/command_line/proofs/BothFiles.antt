@@ -1,11 +1,12 @@
 -- A tool goes on with both its files: in a line of words no list stands without a table.
 --     both_named     where such a line is ready, the files that it hands on are the table and the list of its words
 -- Assumes nothing.
-use Prim.Native.Nat.{ℕ, suc}
+use Prim.Native.Nat.{ℕ, zero, suc}
 use mathlib.Core.Path.{◌≡◌, refl, sym, ◌∙◌, ap, subst}
 use mathlib.Core.Bool.{Bool, true, false, cond}
-use mathlib.Core.List.{List, [], ◌∷◌}
+use mathlib.Core.List.{List}
 use Rattle.std.specs.Prelude.{Option, Some, None, Result, Ok, Err}
+use Rattle.std.proofs.lemmas.Bool.{cond_both}
 use Rattle.command_line.specs.declared.tools.Tool.{Tool}
 use Rattle.command_line.specs.declared.words.Word.{Word}
 use Rattle.command_line.specs.declared.words.Word.TheVariants.{Help, Rows, Mode, Even, Mixed, File}
@@ -14,8 +15,8 @@ use Rattle.command_line.specs.declared.line.Command.{Command}
 use Rattle.command_line.specs.declared.line.Stop.{Stop}
 use Rattle.command_line.specs.declared.line.Stop.TheVariants as stop
 use Rattle.command_line.specs.Tools.{takes_many}
-use Rattle.command_line.specs.Words.{word_of}
-use Rattle.command_line.specs.Lines.{no_words, with_help, with_fault, beyond_table, file_behind, file_taken, mode_taken, word_taken, is_help, unless_faulty, known_taken, taken, line_from, line_of, number_of, with_files, unless_fault, status_of}
+use Rattle.command_line.specs.Lines.{no_words, numbered, with_fault, beyond_table, file_behind, file_taken, mode_taken, word_taken, is_help, known_taken, line_of, number_of, with_files, unless_fault, status_of}
+use Rattle.command_line.proofs.HelpAnywhere.{unless_keeps, words_keep}
 
 -- no list, or a table
 abbrev Behind : Option ℕ → Option ℕ → Type 0
@@ -23,32 +24,36 @@ Behind (Some table) list = Unit {0}
 Behind None None = Unit {0}
 Behind None (Some list) = ⊥
 
--- ---- a word keeps it so
-
 record Named (o : Line) : Type 0 where
   behind : Behind o.table o.list
 
-either : (b : Bool) {x y : Line} → Named x → Named y → Named (cond b x y)
-either true p q = p
-either false p q = q
+-- ---- a word keeps it so
+
+table_there : (table list : Option ℕ) (x : ℕ) → table ≡ Some x → Behind table list
+table_there table list x e = subst (λ (a : Option ℕ). Behind a list) (sym e) tt
+
+-- a table that is put where none was
+table_put : (k : ℕ) (list : Option ℕ) → Behind None list → Behind (numbered k) list
+table_put zero list h = h
+table_put (suc k) list h = tt
 
 module _ (t : Tool) (o : Line) (k : ℕ) (h : Named o) where
-  over : Named (with_fault o (suc k))
+  over : Named (with_fault o k)
   over = record { behind = h.behind }
 
-  beyond_names : (table : ℕ) (list : Option ℕ) → o.table ≡ Some table → Named (beyond_table t o (suc k) list)
-  beyond_names table None e = record { behind = subst (λ (x : Option ℕ). Behind x (Some (suc k))) (sym e) tt }
-  beyond_names table (Some list) e = either (takes_many t) h over
+  beyond_names : (table : ℕ) (list : Option ℕ) → o.table ≡ Some table → Named (beyond_table t o k list)
+  beyond_names table None e = record { behind = table_there o.table (numbered k) table e }
+  beyond_names table (Some list) e = cond_both (takes_many t) o (with_fault o k) Named (λ b. h) (λ b. over)
 
-  behind_names : (table : Option ℕ) → o.table ≡ table → Named (file_behind t o (suc k) table)
-  behind_names None e = record { behind = tt }
+  behind_names : (table : Option ℕ) → o.table ≡ table → Named (file_behind t o k table)
+  behind_names None e = record { behind = table_put k o.list (subst (λ (a : Option ℕ). Behind a o.list) e h.behind) }
   behind_names (Some table) e = beyond_names table o.list e
 
-  file_names : Named (file_taken t o (suc k))
+  file_names : Named (file_taken t o k)
   unfolding file_taken
   file_names = behind_names o.table refl
 
-  mode_names : (w : Option Word) → Named (mode_taken o (suc k) w)
+  mode_names : (w : Option Word) → Named (mode_taken o k w)
   unfolding mode_taken
   mode_names (Some Help) = over
   mode_names (Some Rows) = over
@@ -58,7 +63,7 @@ module _ (t : Tool) (o : Line) (k : ℕ) (h : Named o) where
   mode_names (Some File) = over
   mode_names None = over
 
-  word_names : (w : Option Word) → Named (word_taken t o (suc k) w)
+  word_names : (w : Option Word) → Named (word_taken t o k w)
   unfolding word_taken
   word_names (Some Help) = record { behind = h.behind }
   word_names (Some Rows) = record { behind = h.behind }
@@ -68,20 +73,11 @@ module _ (t : Tool) (o : Line) (k : ℕ) (h : Named o) where
   word_names (Some File) = file_names
   word_names None = over
 
-  unless_names : (r : Line) (fault : Option ℕ) → Named r → Named (unless_faulty fault o r)
-  unless_names r None g = g
-  unless_names r (Some j) g = h
-
-  names : (w : Option Word) → Named (known_taken t o (suc k) w)
-  unfolding known_taken
-  names w =
-      either (is_help w) {x = with_help o} (record { behind = h.behind })
-      (unless_names _ o.fault (either o.mode_wanted (mode_names w) (word_names w)))
-
-all_name : (t : Tool) (o : Line) (k : ℕ) (ws : List (List ℕ)) → Named o → Named (line_from t (suc k) o ws)
-unfolding line_from
-all_name t o k [] h = h
-all_name t o k (w ∷ ws) h = all_name t (taken t o (suc k) w) (suc k) ws (names t o k h (word_of t w))
+names : (t : Tool) (o : Line) (k : ℕ) (w : Option Word) → Named o → Named (known_taken t o k w)
+unfolding known_taken
+names t o k w h =
+    cond_both (is_help w) _ _ Named (λ b. record { behind = h.behind })
+    (λ b. unless_keeps Named o _ o.fault h (cond_both o.mode_wanted _ _ Named (λ c. mode_names t o k h w) (λ c. word_names t o k h w)))
 
 -- ---- so what is ready has both
 
@@ -108,4 +104,7 @@ ready o false false None (Some table) (Some list) c e f h q = (
 pub both_named : (t : Tool) (ws : List (List ℕ)) (c : Command) → status_of (line_of t ws) ≡ Ok c
     → ((line_of t ws).table ≡ Some c.table) × ((line_of t ws).list ≡ Some c.list)
 unfolding status_of
-both_named t ws c q = let o = line_of t ws in ready o o.help o.mode_wanted o.fault o.table o.list c refl refl (all_name t no_words 0 ws (record { behind = tt })).behind q
+both_named t ws c q =
+    let o = line_of t ws in
+    let named = words_keep Named t (names t) 1 no_words ws (record { behind = tt }) in
+    ready o o.help o.mode_wanted o.fault o.table o.list c refl refl named.behind q

@@ -18,7 +18,7 @@ use Rattle.command_line.specs.declared.line.Stop.{Stop}
 use Rattle.command_line.specs.declared.line.Stop.TheVariants as stop
 use Rattle.command_line.specs.Words.{option_of, name_of, begins_as_option, fits, word_of}
 use Rattle.command_line.specs.Lines.{no_words, with_help, with_fault, mode_taken, word_taken, is_help, unless_faulty, known_taken, taken, line_from, line_of, unless_fault, status_of}
-use Rattle.command_line.proofs.HelpAnywhere.{Asked, all_keep}
+use Rattle.command_line.proofs.HelpAnywhere.{Asked, words_keep, all_keep}
 
 -- ---- what the words of till_import can mean
 
@@ -73,9 +73,7 @@ fault_keeps t o k w h =
     (stays o (cond o.mode_wanted (mode_taken o k w) (word_taken t o k w)) o.fault h.word h.faulty h.faulty)
 
 faults_keep : (t : Tool) (k : ℕ) (o : Line) (ws : List (List ℕ)) → Faulty o → Faulty (line_from t k o ws)
-unfolding line_from
-faults_keep t k o [] h = h
-faults_keep t k o (w ∷ ws) h = faults_keep t (suc k) (taken t o k w) ws (fault_keeps t o k (word_of t w) h)
+faults_keep t k o ws h = words_keep Faulty t (fault_keeps t) k o ws h
 
 over : (o : Line) (k : ℕ) → Faulty (with_fault o (suc k))
 over o k = record { word = suc k; faulty = refl }

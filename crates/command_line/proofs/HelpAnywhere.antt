@@ -1,5 +1,6 @@
 -- --help counts wherever it stands, also behind a word that cannot be taken.
---     help_anywhere     a command line with --help among its words comes to help, for every tool
+--     unless_keeps, words_keep     what stands and what each word keeps, all words keep
+--     help_anywhere                a command line with --help among its words comes to help, for every tool
 -- Assumes nothing.
 use Prim.Native.Nat.{ℕ, suc}
 use mathlib.Core.Path.{◌≡◌, refl}
@@ -55,20 +56,24 @@ word_keeps t o k (Some Mixed) h = file_keeps t o k h
 word_keeps t o k (Some File) h = file_keeps t o k h
 word_keeps t o k None h = record { asked = h.asked }
 
-unless_keeps : (o r : Line) (fault : Option ℕ) → Asked o → Asked r → Asked (unless_faulty fault o r)
-unless_keeps o r None h g = g
-unless_keeps o r (Some k) h g = h
+pub unless_keeps : (P : Line → Type 0) (o r : Line) (fault : Option ℕ) → P o → P r → P (unless_faulty fault o r)
+unless_keeps P o r None h g = g
+unless_keeps P o r (Some k) h g = h
 
 keeps : (t : Tool) (o : Line) (k : ℕ) (w : Option Word) → Asked o → Asked (known_taken t o k w)
 unfolding known_taken
 keeps t o k w h =
     either (is_help w) {x = with_help o} (record { asked = refl })
-    (unless_keeps o _ o.fault h (either o.mode_wanted (mode_keeps o k w h) (word_keeps t o k w h)))
+    (unless_keeps Asked o _ o.fault h (either o.mode_wanted (mode_keeps o k w h) (word_keeps t o k w h)))
+
+pub words_keep : (P : Line → Type 0) (t : Tool) → ((o : Line) (k : ℕ) (w : Option Word) → P o → P (known_taken t o k w))
+    → (k : ℕ) (o : Line) (ws : List (List ℕ)) → P o → P (line_from t k o ws)
+unfolding line_from
+words_keep P t keep k o [] h = h
+words_keep P t keep k o (w ∷ ws) h = words_keep P t keep (suc k) (taken t o k w) ws (keep o k (word_of t w) h)
 
 pub all_keep : (t : Tool) (k : ℕ) (o : Line) (ws : List (List ℕ)) → Asked o → Asked (line_from t k o ws)
-unfolding line_from
-all_keep t k o [] h = h
-all_keep t k o (w ∷ ws) h = all_keep t (suc k) (taken t o k w) ws (keeps t o k (word_of t w) h)
+all_keep t k o ws h = words_keep Asked t (keeps t) k o ws h
 
 asks : (t : Tool) (o : Line) (k : ℕ) → Asked (taken t o k (ascii "--help"))
 unfolding known_taken word_of option_of
